@@ -1,0 +1,3 @@
+pub mod Decided
+pub mod Laying
+pub mod Marks

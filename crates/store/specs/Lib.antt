@@ -1,0 +1,5 @@
+pub mod Refusals
+pub mod Spans
+pub mod Terms
+pub mod Tables
+pub mod Rules

@@ -1,0 +1,33 @@
+-- The refusals: the number of each, and what each names as at fault.
+use Prim.Native.Nat.{ℕ}
+use Rattle.store.specs.declared.fault.Refusal.{Refusal}
+use Rattle.store.specs.declared.fault.Refusal.the-variants.{StoreBroken, BadPattern, BadPart, BadBindings, BadEntryCount, BadEntry, PartNotOpen, EntryNotWaiting, FindPending, FindNotPending, NoPartOpen, BadEnds, EndsApart, EndsLooselyJoined, HostFull}
+
+-- what kind of thing a refusal names
+pub data Names : Type 0 where
+  nothing : Names
+  a-part : Names
+  an-entry : Names
+  entry-or-pair : Names
+  found-pair : Names
+
+pub record Meaning : Type 0 where
+  pub number : ℕ
+  pub names : Names
+
+abbrev pub meaning : Refusal → Meaning
+meaning StoreBroken = record { number = 1; names = nothing }
+meaning BadPattern = record { number = 2; names = nothing }
+meaning BadPart = record { number = 3; names = a-part }
+meaning BadBindings = record { number = 4; names = nothing }
+meaning BadEntryCount = record { number = 5; names = nothing }
+meaning BadEntry = record { number = 6; names = entry-or-pair }
+meaning PartNotOpen = record { number = 7; names = a-part }
+meaning EntryNotWaiting = record { number = 8; names = an-entry }
+meaning FindPending = record { number = 9; names = nothing }
+meaning FindNotPending = record { number = 10; names = nothing }
+meaning NoPartOpen = record { number = 11; names = nothing }
+meaning BadEnds = record { number = 12; names = found-pair }
+meaning EndsApart = record { number = 13; names = found-pair }
+meaning EndsLooselyJoined = record { number = 14; names = found-pair }
+meaning HostFull = record { number = 15; names = found-pair }
