@@ -1,9 +1,11 @@
 -- Answers of a test that is settled.
-use mathlib.Core.Path.{_≡_, refl, subst}
+use mathlib.Core.Path.{_≡_, refl, sym, subst}
+use mathlib.Core.Logic.{⊎-elim}
 use mathlib.Core.Bool.{Bool, true, false}
 use mathlib.Core.List.{List, [], _∷_}
-use Prim.Native.Nat.{ℕ, _<_, _≤_, zero, suc}
+use Prim.Native.Nat.{ℕ, _+_, _<_, _≤_, zero, suc}
 use native.Mathlib.Omega.{arith}
+use borrow.Author.Count.{below-more}
 use lib.ListN.{length, getD, take}
 use lib.Seq.{take-all}
 use Rattle.std.specs.Finite.{nth}
@@ -11,7 +13,8 @@ use Rattle.std.specs.Orderings.{Decides}
 use Rattle.std.specs.shelf.Lists.{All}
 use Rattle.std.specs.declared.option.Option.{Option}
 use Rattle.std.specs.declared.option.Option.the-variants.{Some, None}
-use Rattle.std.proofs.shelf.Tests.{false≢true}
+use Rattle.std.proofs.shelf.Maps.{nth-past}
+use Rattle.std.proofs.shelf.Tests.{false≢true, cases-lt}
 use Rattle.std.proofs.shelf.Elements.{all-getD}
 
 -- an option is one thing
@@ -43,3 +46,22 @@ pub all-nth : {X : Type 0} (P : X → Type 0) (xs : List X) (i : ℕ) (x : X) �
 all-nth P [] i x all e = absurd (some-not-none None x refl e)
 all-nth P (y ∷ xs) zero x all e = let same : y ≡ x = cc in subst P same (all .0)
 all-nth P (y ∷ xs) (suc i) x all e = all-nth P xs i x (all .1) e
+
+-- what holds of each item of a table, by its place: the first i of them
+abbrev pub Below : {X : Type 0} → (ℕ → X → Type 0) → List X → ℕ → Type 0
+Below {X} P xs i = (k : ℕ) → k < i → (x : X) → nth xs k ≡ Some x → P k x
+
+abbrev pub Each : {X : Type 0} → (ℕ → X → Type 0) → List X → Type 0
+Each {X} P xs = (k : ℕ) (x : X) → nth xs k ≡ Some x → P k x
+
+pub below-none : {X : Type 0} (P : ℕ → X → Type 0) (xs : List X) → Below P xs 0
+below-none P xs k h = absurd (omega arith)
+
+pub below-next : {X : Type 0} (P : ℕ → X → Type 0) (xs : List X) (i : ℕ) (y : X) → nth xs i ≡ Some y → P i y → Below P xs i → Below P xs (i + 1)
+below-next P xs i y e p below = below-more _ _ below (λ x f. subst (P i) (same-some _ y x e f) p)
+
+pub below-all : {X : Type 0} (P : ℕ → X → Type 0) (xs : List X) (i : ℕ) → length xs ≤ i → Below P xs i → Each P xs
+below-all P xs i h below k x e = ⊎-elim
+  (λ l. below k l x e)
+  (λ past. absurd (some-not-none _ x (sym (nth-past xs k (omega arith))) e))
+  (cases-lt k i)

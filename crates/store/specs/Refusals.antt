@@ -1,5 +1,8 @@
 -- The refusals: the number of each, and what each names as at fault.
 use Prim.Native.Nat.{ℕ}
+use Rattle.store.specs.declared.fault.Culprit.{Culprit}
+use Rattle.store.specs.declared.fault.Fault.{Fault}
+use Rattle.store.specs.declared.fault.Layer.the-variants.{Finder}
 use Rattle.store.specs.declared.fault.Refusal.{Refusal}
 use Rattle.store.specs.declared.fault.Refusal.the-variants.{StoreBroken, BadPattern, BadPart, BadBindings, BadEntryCount, BadEntry, PartNotOpen, EntryNotWaiting, FindPending, FindNotPending, NoPartOpen, BadEnds, EndsApart, EndsLooselyJoined, HostFull}
 
@@ -31,3 +34,7 @@ meaning BadEnds = record { number = 12; names = found-pair }
 meaning EndsApart = record { number = 13; names = found-pair }
 meaning EndsLooselyJoined = record { number = 14; names = found-pair }
 meaning HostFull = record { number = 15; names = found-pair }
+
+-- a fault that arose in the finder's own layer
+abbrev pub in-finder : Refusal → Culprit → Fault
+in-finder k c = record { refusal = k; layer = Finder; culprit = c }

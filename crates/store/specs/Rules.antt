@@ -10,10 +10,10 @@ use Rattle.std.specs.declared.option.Option.the-variants.{Some}
 use Rattle.std.specs.declared.result.Result.{Result}
 use Rattle.store.specs.declared.fault.Fault.{Fault}
 use Rattle.store.specs.declared.fault.Refusal.the-variants.{StoreBroken}
-use Rattle.store.specs.declared.fault.Layer.the-variants.{Finder}
 use Rattle.store.specs.declared.fault.Culprit.the-variants.{Nothing}
 use Rattle.store.specs.declared.term.Term.{Term}
 use Rattle.store.specs.declared.term.ENode.{ENode}
+use Rattle.store.specs.Refusals.{in-finder}
 use Rattle.store.specs.Spans.{Laid}
 use Rattle.store.specs.Terms.{follows, Listed, Childless}
 use Rattle.store.specs.Tables.{Tables, term-at, kids, name-of, recorded}
@@ -47,4 +47,4 @@ pub record StoreRules (S : Tables) : Type 0 where
 
 -- what the check of a store answers
 abbrev pub StoreChecked : Tables → Result (Unit {0}) Fault → Type 0
-StoreChecked S r = Cases r (λ _. StoreRules S) (λ f. (StoreRules S → ⊥) × (f ≡ record { refusal = StoreBroken; layer = Finder; culprit = Nothing }))
+StoreChecked S r = Cases r (λ _. StoreRules S) (λ f. (StoreRules S → ⊥) × (f ≡ in-finder StoreBroken Nothing))

@@ -1,6 +1,6 @@
 // What a refused call says: a numbered ground, the layer in which it arose, and what is at fault first.
 ghost use mathlib.Core.Path.{_≡_};
-ghost use Rattle.store.specs.Refusals.{meaning};
+ghost use Rattle.store.specs.Refusals.{meaning, in-finder};
 
 // The grounds, in the order of their numbers.
 #[derive(Clone, Copy, PartialEq, Eq, Debug)]
@@ -65,6 +65,19 @@ impl Refusal {
             Refusal::EndsApart => 13,
             Refusal::EndsLooselyJoined => 14,
             Refusal::HostFull => 15,
+        }
+    }
+}
+
+impl Fault {
+    // A fault of the finder's own layer.
+    pub fn finder(refusal: Refusal, culprit: Culprit) -> Fault
+        ensures { λ r. ⌜ r ≡ in-finder refusal culprit ⌝ }
+    {
+        Fault {
+            refusal,
+            layer: Layer::Finder,
+            culprit,
         }
     }
 }

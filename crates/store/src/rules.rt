@@ -14,7 +14,6 @@ ghost use Rattle.store.specs.Tables.{tables, term-at, recorded};
 ghost use Rattle.store.specs.Terms.{follows, of-children, Listed, Childless};
 use crate::fault::Culprit;
 use crate::fault::Fault;
-use crate::fault::Layer;
 use crate::fault::Refusal;
 use crate::span::Span;
 use crate::store::Store;
@@ -241,10 +240,6 @@ impl Store<'_> {
         if self.keeps_all() {
             return Ok(());
         }
-        Err(Fault {
-            refusal: Refusal::StoreBroken,
-            layer: Layer::Finder,
-            culprit: Culprit::Nothing,
-        })
+        Err(Fault::finder(Refusal::StoreBroken, Culprit::Nothing))
     }
 }

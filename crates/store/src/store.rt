@@ -80,7 +80,8 @@ impl<'a> Store<'a> {
         self.has_var(t) == HasVar::No
     }
 
-    pub(crate) fn kids(self, term: Term) -> &'a [usize]
+    // The children of a term; none where its span lies outside the cells.
+    pub fn kids(self, term: Term) -> &'a [usize]
         ensures { λ r. ⌜ now r ≡ kids (tables (self .entry)) term ⌝ }
     {
         match cut(self.cells, term.child_ids) {

@@ -1,0 +1,5 @@
+pub mod Bindings
+pub mod Listed
+pub mod Asked
+pub mod Places
+pub mod Grounds

@@ -1,0 +1,54 @@
+// The walk that lists a term's places. It stops at the 65th, so shared terms cost it nothing.
+ghost use lib.ListN.{length};
+ghost use mathlib.Core.List.{List, _++_};
+ghost use mathlib.Core.Path.{_≡_};
+ghost use Prim.Native.Nat.{ℕ, _+_, _<_};
+ghost use Rattle.request.specs.Listed.{listed};
+ghost use Rattle.request.specs.Places.{Preorder, opened, variable-at};
+ghost use Rattle.std.specs.Orderings.{When};
+ghost use Rattle.store.specs.Tables.{tables};
+use super::Places;
+use store::HasVar;
+use store::Store;
+use store::TermKind;
+use store::cut;
+
+// The children that are places of their own: those of an application that is not closed.
+pub(crate) fn opened<'a>(store: Store<'a>, t: usize) -> &'a [usize]
+    ensures { λ r. ⌜ now r ≡ opened (tables (store .entry)) t ⌝ }
+{
+    let Some(term) = store.term(t) else {
+        return &[];
+    };
+    match (term.kind, term.has_var) {
+        (TermKind::App(_), HasVar::Yes | HasVar::Unknown) => store.kids(term),
+        _ => &[],
+    }
+}
+
+// The variable that a term is, if it is one.
+pub(crate) fn variable_at(store: Store, t: usize) -> Option<usize>
+    ensures { λ r. ⌜ r ≡ variable-at (tables (store .entry)) t ⌝ }
+{
+    match store.term(t)?.kind {
+        TermKind::Var(v) => Some(v),
+        _ => None,
+    }
+}
+
+impl Places {
+    // Lists a term and all places below it; false where that would be over 64.
+    pub(crate) fn walk(&mut self, store: Store, t: usize) -> bool
+        ensures { λ r. ⌜ When r ((ts : List ℕ) × Preorder (tables (store .entry)) t ts × (listed (now (self .exit)) ≡ listed (now (self .entry)) ++ ts)) ((ts : List ℕ) → Preorder (tables (store .entry)) t ts → 64 < length (listed (now (self .entry))) + length ts) ⌝ }
+    {
+        if !self.push(t) {
+            return false;
+        }
+        for c in opened(store, t) {
+            if !self.walk(store, *c) {
+                return false;
+            }
+        }
+        true
+    }
+}
