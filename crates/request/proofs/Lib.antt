@@ -1,1 +1,4 @@
 pub mod Walks
+pub mod Quantifiers
+pub mod Parts
+pub mod Faults

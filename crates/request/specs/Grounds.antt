@@ -50,9 +50,13 @@ pub record PartRules (S : Tables) (p : ℕ) : Type 0 where
 abbrev pub PlaceBound : Asked → ℕ → Type 0
 PlaceBound R s = (v : ℕ) → variable-at (R .store) s ≡ Some v → BoundClosed R v
 
+-- every place of a part, however they are listed, is so bound
+abbrev pub PartBound : Asked → ℕ → Type 0
+PartBound R p = (ts : List ℕ) → Preorder (R .store) p ts → All (PlaceBound R) ts
+
 pub record BindingRules (R : Asked) : Type 0 where
   pub few : bound-count (R .bound) ≤ 32
-  pub closed : (i p : ℕ) (ts : List ℕ) → part-at R i ≡ Some p → Preorder (R .store) p ts → All (PlaceBound R) ts
+  pub closed : (i p : ℕ) → part-at R i ≡ Some p → PartBound R p
 
 pub record CountRules (R : Asked) : Type 0 where
   pub enough : length (parts R) ≤ length (R .entries)
@@ -72,14 +76,23 @@ pub record PairRules (R : Asked) (k : ℕ) (p : Pair) : Type 0 where
   pub from-there : p .from < length (R .store .nodes)
   pub to-there : p .to < length (R .store .nodes)
 
+abbrev pub EachPart : Asked → Type 0
+EachPart R = (i p : ℕ) → part-at R i ≡ Some p → PartRules (R .store) p
+
+abbrev pub EachEntry : Asked → Type 0
+EachEntry R = (j : ℕ) (e : LogEntry) → nth (R .entries) j ≡ Some e → EntryRules R e
+
+abbrev pub EachPair : Asked → Type 0
+EachPair R = (k : ℕ) (p : Pair) → nth (R .pairs) k ≡ Some p → PairRules R k p
+
 pub record Admitted (R : Asked) : Type 0 where
   pub store : StoreRules (R .store)
   pub pattern : PatternRules R
-  pub parts : (i p : ℕ) → part-at R i ≡ Some p → PartRules (R .store) p
+  pub parts : EachPart R
   pub bindings : BindingRules R
   pub count : CountRules R
-  pub entries : (j : ℕ) (e : LogEntry) → nth (R .entries) j ≡ Some e → EntryRules R e
-  pub pairs : (k : ℕ) (p : Pair) → nth (R .pairs) k ≡ Some p → PairRules R k p
+  pub entries : EachEntry R
+  pub pairs : EachPair R
 
 -- a ground holds of a request, at this culprit
 pub data AtFault (R : Asked) : Refusal → Culprit → Type 0 where

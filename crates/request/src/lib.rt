@@ -1,4 +1,5 @@
 // A request: a store, a pattern with its bindings, and the logged entries; its parts and places, and its check.
+mod check;
 mod kinds;
 mod places;
 mod request;

@@ -47,6 +47,12 @@ all-nth P [] i x all e = absurd (some-not-none None x refl e)
 all-nth P (y ∷ xs) zero x all e = let same : y ≡ x = cc in subst P same (all .0)
 all-nth P (y ∷ xs) (suc i) x all e = all-nth P xs i x (all .1) e
 
+-- what is read at a place stands inside the list
+pub nth-inside : {X : Type 0} (xs : List X) (i : ℕ) (x : X) → nth xs i ≡ Some x → i < length xs
+nth-inside [] i x e = absurd (some-not-none None x refl e)
+nth-inside (y ∷ xs) zero x e = omega arith
+nth-inside (y ∷ xs) (suc i) x e = omega (arith, nth-inside xs i x e)
+
 -- what holds of each item of a table, by its place: the first i of them
 abbrev pub Below : {X : Type 0} → (ℕ → X → Type 0) → List X → ℕ → Type 0
 Below {X} P xs i = (k : ℕ) → k < i → (x : X) → nth xs k ≡ Some x → P k x
