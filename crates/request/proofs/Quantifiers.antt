@@ -22,15 +22,16 @@ use Rattle.store.specs.declared.term.TermKind.the-variants.{Var, App, Quant}
 use Rattle.store.specs.Rules.{StoreRules, TermRules}
 use Rattle.store.specs.Tables.{Tables, term-at, kids, recorded, recorded-in}
 use Rattle.store.specs.Terms.{some, is-unknown, is-yes, of-children, follows, Childless}
+use Rattle.store.proofs.Decided.{nth-there}
 use Rattle.request.specs.Grounds.{Quantified, itself, below}
 
 -- some child passes the test, and which
 pub some-has : {X Y : Type 0} (p : Y → Bool) (f : X → Y) (xs : List X) → some p (map f xs) ≡ true → (x : X) × Has xs x × (p (f x) ≡ true)
 some-has p f [] e = absurd (true≢false (sym e))
 some-has p f (x ∷ xs) e = ⊎-elim
-  (λ here. (x, (zero, omega arith, λ d. refl), here))
-  (λ later. let r = some-has p f xs later in (r .0, (suc (r .1 .0), omega (arith, r .1 .1), r .1 .2), r .2))
-  (or-cases (p (f x)) (some p (map f xs)) e)
+    (λ here. (x, (zero, omega arith, λ d. refl), here))
+    (λ later. let r = some-has p f xs later in (r .0, (suc (r .1 .0), omega (arith, r .1 .1), r .1 .2), r .2))
+    (or-cases (p (f x)) (some p (map f xs)) e)
 
 pub has-some : {X Y : Type 0} (p : Y → Bool) (f : X → Y) (xs : List X) (k : ℕ) (x : X) → k < length xs → ((d : X) → getD xs k d ≡ x) → p (f x) ≡ true → some p (map f xs) ≡ true
 has-some p f [] k x h at e = absurd (omega arith)
@@ -51,11 +52,6 @@ of-unknown false false e = absurd (true≢false (ap is-unknown (sym e)))
 of-known : (a b : Bool) → a ≡ true → cond a Unknown (cond b Yes No) ≡ Unknown
 of-known true b e = refl
 of-known false b e = absurd (true≢false (sym e))
-
-nth-there : {X : Type 0} (xs : List X) (i : ℕ) → i < length xs → (x : X) × (nth xs i ≡ Some x)
-nth-there [] i h = absurd (omega arith)
-nth-there (x ∷ xs) zero h = (x, refl)
-nth-there (x ∷ xs) (suc i) h = nth-there xs i (omega arith)
 
 no-cells : (b : Bool) (xs : List ℕ) (n : ℕ) → n ≡ 0 → valueOr (cond b (Some (take n xs)) None) [] ≡ []
 no-cells true xs n e = ap (λ m. take m xs) e

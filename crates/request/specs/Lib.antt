@@ -3,3 +3,4 @@ pub mod Listed
 pub mod Asked
 pub mod Places
 pub mod Grounds
+pub mod Laws

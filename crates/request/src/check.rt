@@ -4,7 +4,7 @@ ghost use Prim.Native.Nat.{ℕ, _<_};
 ghost use lib.ListN.{length};
 ghost use Rattle.request.specs.Asked.{asked, part-at};
 ghost use Rattle.request.specs.Grounds.{PatternRules, PartRules, PlaceBound, BindingRules, CountRules, EntryRules, PairRules, Faulted, Checked, EachPart, EachEntry, EachPair, PartBound};
-ghost use Rattle.request.specs.Listed.{listed};
+ghost use Rattle.request.specs.Laws.{AdmittedKeeps};
 ghost use Rattle.std.specs.Orderings.{Decides};
 ghost use Rattle.std.specs.Results.{Cases};
 ghost use Rattle.std.specs.shelf.Lists.{All};
@@ -17,14 +17,18 @@ use crate::request::Request;
 use store::Culprit;
 use store::Fault;
 use store::HasVar;
+use store::HasVarPartialEq;
 use store::Refusal;
 use store::TermKind;
-use store::HasVarPartialEq;
 
 const MOST_PARTS: usize = 16;
+
 const MOST_BINDINGS: usize = 32;
+
 const MOST_ENTRIES: usize = 64;
+
 const MOST_ENTRY_PAIRS: usize = 64;
+
 const MOST_PAIRS: usize = 4096;
 
 impl Request<'_> {
@@ -140,7 +144,9 @@ impl Request<'_> {
             return false;
         }
         let size = self.pairs.len();
-        entry.pairs.len <= MOST_ENTRY_PAIRS && entry.pairs.offset <= size && entry.pairs.len <= size - entry.pairs.offset
+        entry.pairs.len <= MOST_ENTRY_PAIRS
+            && entry.pairs.offset <= size
+            && entry.pairs.len <= size - entry.pairs.offset
     }
 
     fn check_entries(self) -> Result<(), Fault>
@@ -175,7 +181,8 @@ impl Request<'_> {
 
     // Refuses a request on the first ground that holds.
     pub fn check(self) -> Result<(), Fault>
-        ensures { λ r. ⌜ Checked (asked (self .entry)) r ⌝ }
+        ensures answer { λ r. ⌜ Checked (asked (self .entry)) r ⌝ }
+        ensures laws { λ _. ⌜ AdmittedKeeps ⌝ }
     {
         self.store.check()?;
         self.check_pattern()?;

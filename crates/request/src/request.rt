@@ -57,6 +57,10 @@ impl<'a> Request<'a> {
         ensures { λ r. ⌜ Cases r ((ts : List ℕ) → Preorder (asked (self .entry) .store) term ts → 64 < length ts) (λ p. Preorder (asked (self .entry) .store) term (listed p) × (length (listed p) ≤ 64)) ⌝ }
     {
         let mut out = Places::new();
-        if out.walk(self.store, term) { Some(out) } else { None }
+        if out.walk(self.store, term) {
+            Some(out)
+        } else {
+            None
+        }
     }
 }

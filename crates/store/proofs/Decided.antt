@@ -53,6 +53,11 @@ nth-inside [] i x e = absurd (some-not-none None x refl e)
 nth-inside (y ∷ xs) zero x e = omega arith
 nth-inside (y ∷ xs) (suc i) x e = omega (arith, nth-inside xs i x e)
 
+pub nth-there : {X : Type 0} (xs : List X) (i : ℕ) → i < length xs → (x : X) × (nth xs i ≡ Some x)
+nth-there [] i h = absurd (omega arith)
+nth-there (x ∷ xs) zero h = (x, refl)
+nth-there (x ∷ xs) (suc i) h = nth-there xs i (omega arith)
+
 -- what holds of each item of a table, by its place: the first i of them
 abbrev pub Below : {X : Type 0} → (ℕ → X → Type 0) → List X → ℕ → Type 0
 Below {X} P xs i = (k : ℕ) → k < i → (x : X) → nth xs k ≡ Some x → P k x
@@ -68,6 +73,6 @@ below-next P xs i y e p below = below-more _ _ below (λ x f. subst (P i) (same-
 
 pub below-all : {X : Type 0} (P : ℕ → X → Type 0) (xs : List X) (i : ℕ) → length xs ≤ i → Below P xs i → Each P xs
 below-all P xs i h below k x e = ⊎-elim
-  (λ l. below k l x e)
-  (λ past. absurd (some-not-none _ x (sym (nth-past xs k (omega arith))) e))
-  (cases-lt k i)
+    (λ l. below k l x e)
+    (λ past. absurd (some-not-none _ x (sym (nth-past xs k (omega arith))) e))
+    (cases-lt k i)

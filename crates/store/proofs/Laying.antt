@@ -49,12 +49,12 @@ behind s ss size end l i u e old =
     record {
       after = later;
       clear = λ some. ⊎-elim
-        (λ full. subst (λ n. n ≤ u .offset) (sym (further-some s end full)) (⊎-elim
+          (λ full. subst (λ n. n ≤ u .offset) (sym (further-some s end full)) (⊎-elim
           (λ short. absurd (l .apart zero (suc i) s u (u .offset) (omega arith) refl e (record { from = later; until = short }) (record { from = omega arith; until = omega arith })))
           (λ h. h)
           (cases-lt (u .offset) (s .offset + s .len))))
-        (λ empty. subst (λ n. n ≤ u .offset) (sym (further-none s end empty)) (old some))
-        (cases-lt 0 (s .len));
+          (λ empty. subst (λ n. n ≤ u .offset) (sym (further-none s end empty)) (old some))
+          (cases-lt 0 (s .len));
     }
 
 reads-from : (size last end : ℕ) (ss : List Span) → Laid ss size → All (Ahead last end) ss → Reads size last end ss
@@ -62,7 +62,7 @@ reads-from size last end [] l h = tt
 reads-from size last end (s ∷ ss) l h = (
   record { after = h .0 .after; inside = l .inside zero s refl; clear = h .0 .clear },
   reads-from size (s .offset) (further s end) ss (tail-laid s ss size l)
-    (all-from-nth (Ahead (s .offset) (further s end)) ss (λ i u e. behind s ss size end l i u e (all-nth (Ahead last end) ss i u (h .1) e .clear))),
+      (all-from-nth (Ahead (s .offset) (further s end)) ss (λ i u e. behind s ss size end l i u e (all-nth (Ahead last end) ss i u (h .1) e .clear))),
 )
 
 -- an empty reach stands before every span
@@ -73,9 +73,9 @@ nearer : (size last end : ℕ) (s u : Span) → Fits size last end s → Ahead (
 nearer size last end s u f a = record {
   after = omega (arith, f .after, a .after);
   clear = λ some. ⊎-elim
-    (λ full. omega (arith, f .clear full, a .after))
-    (λ empty. subst (λ n. n ≤ u .offset) (further-none s end empty) (a .clear some))
-    (cases-lt 0 (s .len));
+      (λ full. omega (arith, f .clear full, a .after))
+      (λ empty. subst (λ n. n ≤ u .offset) (further-none s end empty) (a .clear some))
+      (cases-lt 0 (s .len));
 }
 
 ahead-from : (size last end : ℕ) (ss : List Span) → Reads size last end ss → All (Ahead last end) ss
@@ -104,11 +104,11 @@ reads-laid size last end (s ∷ ss) r =
     record {
       inside = elim [ zero ↦ λ u e. let same : s ≡ u = cc in subst (λ v. v .offset + v .len ≤ size) same (r .0 .inside) | suc i ↦ λ u e. rest .inside i u e ];
       sorted = elim [
-        zero ↦ elim [ zero ↦ λ u v h e f. absurd (omega arith) | suc j ↦ λ u v h e f. let same : s ≡ u = cc in subst (λ w. w .offset ≤ v .offset) same (all-nth (Ahead (s .offset) (further s end)) ss j v ahead f .after) ]
+        | zero ↦ elim [ zero ↦ λ u v h e f. absurd (omega arith) | suc j ↦ λ u v h e f. let same : s ≡ u = cc in subst (λ w. w .offset ≤ v .offset) same (all-nth (Ahead (s .offset) (further s end)) ss j v ahead f .after) ]
         | suc i ↦ elim [ zero ↦ λ u v h e f. absurd (omega arith) | suc j ↦ λ u v h e f. rest .sorted i j u v (omega arith) e f ]
       ];
       apart = elim [
-        zero ↦ elim [ zero ↦ λ u v c h e f p q. absurd (omega arith) | suc j ↦ λ u v c h e f p q. let same : u ≡ s = cc in clear-of s v end c (all-nth (Ahead (s .offset) (further s end)) ss j v ahead f) (subst (λ w. Covers w c) same p) q ]
+        | zero ↦ elim [ zero ↦ λ u v c h e f p q. absurd (omega arith) | suc j ↦ λ u v c h e f p q. let same : u ≡ s = cc in clear-of s v end c (all-nth (Ahead (s .offset) (further s end)) ss j v ahead f) (subst (λ w. Covers w c) same p) q ]
         | suc i ↦ elim [ zero ↦ λ u v c h e f p q. absurd (omega arith) | suc j ↦ λ u v c h e f p q. rest .apart i j u v c (omega arith) e f p q ]
       ];
     }

@@ -35,7 +35,11 @@ pub enum Culprit {
     Part(usize),
     Entry(usize),
     TablePair(usize),
-    FoundPair { part: usize, entry: usize, pair: usize },
+    FoundPair {
+        part: usize,
+        entry: usize,
+        pair: usize,
+    },
 }
 
 #[derive(Clone, Copy, PartialEq, Eq, Debug)]

@@ -18,14 +18,18 @@ use crate::fault::Refusal;
 use crate::span::Span;
 use crate::store::Store;
 use crate::term::HasVar;
+use crate::term::HasVarPartialEq;
 use crate::term::Term;
 use crate::term::TermKind;
-use crate::term::HasVarPartialEq;
 
 const MOST_TERMS: usize = 4096;
+
 const MOST_NODES: usize = 4096;
+
 const MOST_CELLS: usize = 16384;
+
 const MOST_SYMBOLS: usize = 4096;
+
 const MOST_NAME_BYTES: usize = 65536;
 
 // What has a span in some table.

@@ -27,5 +27,9 @@ pub fn cut<T>(table: &[T], span: Span) -> Option<&[T]>
 pub fn lookup<T: Copy>(items: &[T], i: usize) -> Option<T>
     ensures { λ r. ⌜ r ≡ nth (now (items .entry)) i ⌝ }
 {
-    if i < items.len() { Some(items[i]) } else { None }
+    if i < items.len() {
+        Some(items[i])
+    } else {
+        None
+    }
 }

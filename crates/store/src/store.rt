@@ -11,8 +11,8 @@ use crate::span::cut;
 use crate::span::lookup;
 use crate::term::ENode;
 use crate::term::HasVar;
-use crate::term::Term;
 use crate::term::HasVarPartialEq;
+use crate::term::Term;
 
 #[derive(Clone, Copy)]
 pub struct Store<'a> {

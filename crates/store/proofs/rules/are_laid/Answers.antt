@@ -19,7 +19,7 @@ loop-item-again g c =
     let here = next-read (g .T·Spanned .lies) _ _ _ _ _ _ _ _ (c .loop-item-test .taken) (c .item-item .is) (c .span-span .ensures) (c .loop-item .inv) in
     let fit = c .fits-in-loop-item .ensures .0 (c .if-not-fits .left) in
     elim (c .if-span-gt0 .came) [
-      then-span-gt0 w ↦ one-more _ _ _ _ _ _ _ _ here fit (w .last-is) (w .end-is ∙ sym (further-some _ _ (w .if-span-gt0 .taken)))
+      | then-span-gt0 w ↦ one-more _ _ _ _ _ _ _ _ here fit (w .last-is) (w .end-is ∙ sym (further-some _ _ (w .if-span-gt0 .taken)))
       | else-span-gt0 w ↦ one-more _ _ _ _ _ _ _ _ here fit (w .last-is) (w .end-is ∙ sym (further-none _ _ (w .if-span-gt0 .left)))
     ]
 

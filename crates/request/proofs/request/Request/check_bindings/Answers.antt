@@ -21,7 +21,7 @@ is-part-bound-requires c κs = c .pre (c .loop-i .i) _ (ap (λ l. nth l (c .loop
 
 pub returns-then-not-is-part-bound : need.returns-then-not-is-part-bound
 returns-then-not-is-part-bound c = subst (Faulted (asked (c .args .self)) BadBindings) (sym (c .finder-fault .ensures))
-  (alone _ BadBindings (bad-bindings (λ r. not-from-decides _ (c .is-part-bound .ensures) (c .if-not-is-part-bound .taken) (r .closed (c .loop-i .i) _ (ap (λ l. nth l (c .loop-i .i)) (sym (c .parts-parts .ensures)) ∙ nth-getD _ _ _ (c .loop-i-test .taken))))))
+    (alone _ BadBindings (bad-bindings (λ r. not-from-decides _ (c .is-part-bound .ensures) (c .if-not-is-part-bound .taken) (r .closed (c .loop-i .i) _ (ap (λ l. nth l (c .loop-i .i)) (sym (c .parts-parts .ensures)) ∙ nth-getD _ _ _ (c .loop-i-test .taken))))))
 
 pub loop-i-again : need.loop-i-again
 loop-i-again c = below-next (λ _ p. PartBound (asked (c .args .self)) p) _ _ _ (nth-getD _ _ _ (c .loop-i-test .taken)) (c .is-part-bound .ensures .0 (c .if-not-is-part-bound .left)) (c .loop-i .inv)

@@ -8,8 +8,7 @@ use Rattle.request.proofs.request.Request.places.Needs as need
 
 pub returns-then-walk : need.returns-then-walk
 returns-then-walk c =
-    let found = c .if-walk .ensures tt in
-    (
+    let found = c .if-walk .ensures tt in (
       subst (Preorder (tables (c .args .self .store)) (c .args .term)) (sym (found .2 ∙ ap (λ l. l ++ found .0) (c .new-out .ensures))) (found .1),
       omega (arith, long (c .walk .last .self), c .walk .last .self .few),
     )

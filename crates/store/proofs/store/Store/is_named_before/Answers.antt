@@ -24,7 +24,7 @@ returns-then-eq c = passed _ (record {
 
 pub loop-i-again : need.loop-i-again
 loop-i-again c = below-more _ _ (c .loop-i .inv) (elim (c .match-name-2 .came) [
-  in-Some-name·else-eq w ↦ λ e. not-from-decides _ (matches-decides _ _ _ (w .eq .ensures)) (w .if-eq .left) (let both : w .in-Some-name .other .now ≡ c .in-Some .name .now = cc (w .in-Some-name .ensures tt, e) in both)
+  | in-Some-name·else-eq w ↦ λ e. not-from-decides _ (matches-decides _ _ _ (w .eq .ensures)) (w .if-eq .left) (let both : w .in-Some-name .other .now ≡ c .in-Some .name .now = cc (w .in-Some-name .ensures tt, e) in both)
   | in-rest-name w ↦ λ e. some-not-none _ _ (w .in-rest-name .ensures tt) e
 ])
 

@@ -10,16 +10,18 @@ returns-then-not-are-laid-2 c = refused _ (λ r. not-from-decides _ (c .are-laid
 
 pub returns : need.returns
 returns c =
-    let few = c .is-small .ensures .0 (c .if-not-is-small .left) in
-    (λ e. record {
-      few-terms = few .0;
-      few-nodes = few .1;
-      few-cells = few .2;
-      few-symbols = few .3;
-      few-name-bytes = few .4;
-      children-laid = c .are-laid .ensures .0 (c .if-not-are-laid .left);
-      names-laid = rw map-id at (c .are-laid-2 .ensures .0 (c .if-not-are-laid-2 .left));
-      names-distinct = c .are-names-distinct .ensures .0 (c .if-not-are-names-distinct .left);
-      terms-ruled = c .are-terms-ruled .ensures .0 (c .if-not-are-terms-ruled .left);
-      owners-listed = c .are-owners-listed .ensures .0 e;
-    }, λ r. c .are-owners-listed .ensures .1 (r .owners-listed))
+    let few = c .is-small .ensures .0 (c .if-not-is-small .left) in (
+      λ e. record {
+        few-terms = few .0;
+        few-nodes = few .1;
+        few-cells = few .2;
+        few-symbols = few .3;
+        few-name-bytes = few .4;
+        children-laid = c .are-laid .ensures .0 (c .if-not-are-laid .left);
+        names-laid = rw map-id at (c .are-laid-2 .ensures .0 (c .if-not-are-laid-2 .left));
+        names-distinct = c .are-names-distinct .ensures .0 (c .if-not-are-names-distinct .left);
+        terms-ruled = c .are-terms-ruled .ensures .0 (c .if-not-are-terms-ruled .left);
+        owners-listed = c .are-owners-listed .ensures .0 e;
+      },
+      λ r. c .are-owners-listed .ensures .1 (r .owners-listed),
+    )

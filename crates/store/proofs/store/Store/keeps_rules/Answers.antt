@@ -16,10 +16,12 @@ returns-then-not-all-below c = refused _ (λ r. not-from-decides _ (c .all-below
 
 pub returns : need.returns
 returns c =
-    let told : c .follows .result ≡ _ = c .follows .ensures ∙ ap (λ ks. follows (c .args .term .kind) (map (recorded (tables (c .args .self))) ks)) (c .kids-kids .ensures) in
-    (λ e. record {
-      children-below = subst (All (λ x. x < c .args .t)) (c .kids-kids .ensures) (c .all-below .ensures .0 (c .if-not-all-below .left));
-      variable-childless = c .may-have .ensures .0 (c .if-not-may-have .left);
-      symbol-listed = c .is-listed .ensures .0 (c .if-not-is-listed .left);
-      has-var-follows = (rw e at (c .eq .ensures)) ∙ told;
-    }, λ r. ⊎-elim (λ e. e) (λ e. absurd ((rw e at (c .eq .ensures)) (r .has-var-follows ∙ sym told))) (cases-bool (c .eq .result)))
+    let told : c .follows .result ≡ _ = c .follows .ensures ∙ ap (λ ks. follows (c .args .term .kind) (map (recorded (tables (c .args .self))) ks)) (c .kids-kids .ensures) in (
+      λ e. record {
+        children-below = subst (All (λ x. x < c .args .t)) (c .kids-kids .ensures) (c .all-below .ensures .0 (c .if-not-all-below .left));
+        variable-childless = c .may-have .ensures .0 (c .if-not-may-have .left);
+        symbol-listed = c .is-listed .ensures .0 (c .if-not-is-listed .left);
+        has-var-follows = (rw e at (c .eq .ensures)) ∙ told;
+      },
+      λ r. ⊎-elim (λ e. e) (λ e. absurd ((rw e at (c .eq .ensures)) (r .has-var-follows ∙ sym told))) (cases-bool (c .eq .result)),
+    )

@@ -27,7 +27,7 @@ loop-c-again c =
     let rest = map rec (drop (c .loop-c .c-index + 1) (c .args .kids .now)) in
     let left = at-drop-more (λ xs. of-children (c .loop-c .found ∷ map rec xs)) (c .args .kids .now) (c .loop-c .c-index) 0 (c .loop-c-test .taken) in
     elim (c .match-has-var .came) [
-      in-Yes w ↦ rw (w .found-is) (refl, meets-yes (c .loop-c .found) rest (c .loop-c .inv .0) ∙ ap (λ m. of-children (c .loop-c .found ∷ m ∷ rest)) (w .in-Yes .ensures tt) ∙ sym left ∙ c .loop-c .inv .1)
+      | in-Yes w ↦ rw (w .found-is) (refl, meets-yes (c .loop-c .found) rest (c .loop-c .inv .0) ∙ ap (λ m. of-children (c .loop-c .found ∷ m ∷ rest)) (w .in-Yes .ensures tt) ∙ sym left ∙ c .loop-c .inv .1)
       | in-No w ↦ rw (w .found-is) (c .loop-c .inv .0, meets-no (c .loop-c .found) rest ∙ ap (λ m. of-children (c .loop-c .found ∷ m ∷ rest)) (w .in-No .ensures tt) ∙ sym left ∙ c .loop-c .inv .1)
     ]
 
