@@ -1,3 +1,4 @@
 pub mod Decided
 pub mod Laying
 pub mod Marks
+pub mod Holding

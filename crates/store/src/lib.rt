@@ -1,5 +1,6 @@
 // Terms, nodes and symbols as tables, the rules that such tables keep, and the one fault type of the project.
 mod fault;
+mod fixed;
 mod rules;
 mod span;
 mod store;
@@ -17,6 +18,7 @@ pub use fault::LayerPartialEq;
 pub use fault::Refusal;
 pub use fault::RefusalDebug;
 pub use fault::RefusalPartialEq;
+pub use fixed::Fixed;
 pub use span::Span;
 pub use span::SpanDebug;
 pub use span::SpanPartialEq;

@@ -1,0 +1,3 @@
+pub mod Roots
+pub mod Pairs
+pub mod Making

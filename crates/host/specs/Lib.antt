@@ -1,0 +1,5 @@
+pub mod Meaning
+pub mod Reading
+pub mod Within
+pub mod Tabled
+pub mod Kept
