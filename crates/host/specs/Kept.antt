@@ -17,7 +17,7 @@ use Rattle.host.specs.Meaning.{HostRules}
 use Rattle.host.specs.Reading.{is-no, is-the, live-as}
 use Rattle.host.specs.Tabled.{tabled}
 
-the-owner : (o : Option ℕ) (t : ℕ) → is-the o t ≡ true → o ≡ Some t
+pub the-owner : (o : Option ℕ) (t : ℕ) → is-the o t ≡ true → o ≡ Some t
 the-owner None t e = absurd (true≢false (sym e))
 the-owner (Some n) t e = ap Some (eqb-true n t e)
 
