@@ -1,2 +1,5 @@
 pub mod Cuts
+pub mod Held
 pub mod Numerals
+pub mod Once
+pub mod Read

@@ -1,15 +1,16 @@
 // Reads requests as text and says of each whether it is admitted, and what it holds.
 mod arguments;
 mod expected;
+mod host_text;
 mod number;
 mod parse;
 mod reader;
 mod show;
+mod tables;
 mod text;
 mod words;
 
 use std::error::AnyError;
-use std::io::Read;
 
 fn main(rt: LibcRuntime) -> Result<(), AnyError> {
     rt.report(run(&rt))

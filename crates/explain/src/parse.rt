@@ -4,15 +4,15 @@ use crate::expected::LineError;
 use crate::expected::LineErrorFromAlloc;
 use crate::expected::LineErrorFromExpected;
 use crate::expected::LineErrorFromRefused;
+use crate::host_text::Class;
+use crate::host_text::ClassKind;
+use crate::host_text::Live;
+use crate::host_text::Version;
 use crate::number::parse_number;
 use crate::text::Action;
 use crate::text::Bindings;
-use crate::text::Class;
-use crate::text::ClassKind;
 use crate::text::Kind;
-use crate::text::Live;
 use crate::text::RequestText;
-use crate::text::Version;
 use crate::words::Words;
 use crate::words::WordsIterator;
 use crate::words::split_once;
@@ -177,18 +177,19 @@ impl<'a> Item<'a> {
 
     pub fn apply(self, request: &mut RequestText) -> Result<(), LineError> {
         match self {
-            Item::Symbol(name) => request.store.add_symbol(name),
-            Item::Term { kind, children } => request.store.add_term(kind, children.as_slice()),
-            Item::Mark { term, has_var } => request.store.mark(term, has_var),
-            Item::Node { owner } => request.store.add_node(owner),
-            Item::Pattern { term } => request.set_pattern(term),
-            Item::Bindings(bindings) => request.set_bindings(bindings),
-            Item::Entry { node, pairs } => request.add_entry(node, pairs.as_slice()),
-            Item::Live(live) => request.host.add_live(live),
-            Item::Class { kind, class } => request.host.add_class(kind, class),
-            Item::Version(version) => request.host.set_version(version),
-            Item::Action(action) => request.add_action(action),
+            Item::Symbol(name) => request.store.add_symbol(name)?,
+            Item::Term { kind, children } => request.store.add_term(kind, children.as_slice())?,
+            Item::Mark { term, has_var } => request.store.mark(term, has_var)?,
+            Item::Node { owner } => request.store.add_node(owner)?,
+            Item::Pattern { term } => request.set_pattern(term)?,
+            Item::Bindings(bindings) => request.set_bindings(bindings)?,
+            Item::Entry { node, pairs } => request.add_entry(node, pairs.as_slice())?,
+            Item::Live(live) => request.host.add_live(live)?,
+            Item::Class { kind, class } => request.host.add_class(kind, class)?,
+            Item::Version(version) => request.host.set_version(version)?,
+            Item::Action(action) => request.add_action(action)?,
         }
+        Ok(())
     }
 }
 

@@ -2,7 +2,6 @@
 use crate::expected::Expected;
 use crate::expected::ExpectedDisplay;
 use crate::expected::LineError;
-use crate::expected::LineErrorFromExpected;
 use crate::parse::Item;
 use crate::parse::no_more;
 use crate::show::show;
@@ -11,6 +10,7 @@ use crate::words::Lines;
 use crate::words::LinesIterator;
 use crate::words::Words;
 use crate::words::WordsIterator;
+use std::alloc::Global;
 use std::error::AnyError;
 use std::io;
 
@@ -116,7 +116,7 @@ fn add_line(
     text: &mut RequestText,
     word: &[u8],
     words: Words,
-    heap: std::alloc::Global,
+    heap: Global,
 ) -> Result<(), LineError> {
     Item::read(word, words, heap)?.apply(text)
 }

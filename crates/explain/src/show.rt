@@ -1,5 +1,4 @@
 // What is printed of a request.
-use request::LogEntry;
 use request::Request;
 use std::fmt;
 use std::io;
@@ -7,7 +6,6 @@ use store::Culprit;
 use store::Fault;
 use store::Layer;
 use store::Store;
-use store::Term;
 
 pub fn show(rt: &LibcRuntime, request: Request) -> io::Result<()> {
     if let Err(fault) = request.check() {

@@ -3,8 +3,9 @@ ghost use lib.ListN.{length, getD, take};
 ghost use mathlib.Core.List.{_∷_, _++_};
 ghost use mathlib.Core.Path.{_≡_};
 ghost use Prim.Native.Nat.{_<_, _≤_};
-ghost use Rattle.explain.specs.Cuts.{Without};
-ghost use Rattle.std.specs.Options.{Cases as BySome};
+ghost use Rattle.explain.specs.Cuts.{Without, White, Uncommented, NextLine, NextWord};
+ghost use Rattle.std.specs.Options.{mapped, Cases as BySome};
+ghost use Rattle.std.specs.Text.{asciiWhite};
 
 // How many bytes stand before the first that equals `mark`.
 fn len_before(bytes: &[u8], mark: u8) -> usize
@@ -22,7 +23,9 @@ fn len_before(bytes: &[u8], mark: u8) -> usize
 
 // How many bytes at the front are white space, or are not.
 fn run_len(bytes: &[u8], white: bool) -> usize
-    ensures { λ r. ⌜ r ≤ length (now (bytes .entry)) ⌝ }
+    ensures within { λ r. ⌜ r ≤ length (now (bytes .entry)) ⌝ }
+    ensures before { λ r. ⌜ White white (take r (now (bytes .entry))) ⌝ }
+    ensures stops { λ r. ⌜ (r < length (now (bytes .entry)) → asciiWhite (getD (now (bytes .entry)) r 0) ≡ white → ⊥) ⌝ }
 {
     for (i, b) in bytes.iter().enumerate() {
         if b.is_ascii_whitespace() != white {
@@ -43,9 +46,13 @@ pub fn split_once(bytes: &[u8], mark: u8) -> Option<(&[u8], &[u8])>
     Some((&bytes[0..len], &bytes[len + 1..]))
 }
 
-fn without_comment(line: &[u8]) -> &[u8] {
-    let len = len_before(line, b'#');
-    &line[0..len]
+fn without_comment(line: &[u8]) -> &[u8]
+    ensures { λ r. ⌜ Uncommented (now (line .entry)) (now r) ⌝ }
+{
+    match split_once(line, b'#') {
+        Some((text, _)) => text,
+        None => line,
+    }
 }
 
 #[derive(Clone, Copy)]
@@ -54,7 +61,9 @@ pub struct Lines<'a> {
 }
 
 impl<'a> Lines<'a> {
-    pub fn new(input: &'a [u8]) -> Lines<'a> {
+    pub fn new(input: &'a [u8]) -> Lines<'a>
+        ensures { λ r. ⌜ r .rest .now ≡ now (input .entry) ⌝ }
+    {
         Lines { rest: input }
     }
 }
@@ -65,6 +74,8 @@ pub impl<'a> Iterator for Lines<'a> as LinesIterator {
     ghost ends = { λ _. Unit {0} };
 
     ghost left = { λ s. length (s .rest .now) };
+
+    ghost steps = { λ s r t. NextLine (s .rest .now) (mapped (λ l. l .now) r) (t .rest .now) };
 
     fn next(&mut self) -> Option<&'a [u8]> {
         let rest = self.rest;
@@ -91,7 +102,10 @@ pub struct Words<'a> {
 }
 
 impl<'a> Words<'a> {
-    pub fn new(line: &'a [u8]) -> Words<'a> {
+    // A comment has no words.
+    pub fn new(line: &'a [u8]) -> Words<'a>
+        ensures { λ r. ⌜ Uncommented (now (line .entry)) (r .rest .now) ⌝ }
+    {
         Words {
             rest: without_comment(line),
         }
@@ -105,14 +119,17 @@ pub impl<'a> Iterator for Words<'a> as WordsIterator {
 
     ghost left = { λ s. length (s .rest .now) };
 
+    ghost steps = { λ s r t. NextWord (s .rest .now) (mapped (λ w. w .now) r) (t .rest .now) };
+
     fn next(&mut self) -> Option<&'a [u8]> {
-        let gap = run_len(self.rest, true);
-        let start = &self.rest[gap..];
+        let rest = self.rest;
+        let (_, start) = rest.split_at(run_len(rest, true));
         let len = run_len(start, false);
         if len == 0 {
             return None;
         }
-        self.rest = &start[len..];
-        Some(&start[0..len])
+        let (word, after) = start.split_at(len);
+        self.rest = after;
+        Some(word)
     }
 }
