@@ -13,7 +13,7 @@ use Rattle.store.specs.declared.fault.Culprit.the-variants.{Nothing, Part, Entr
 use Rattle.store.specs.declared.fault.Fault.{Fault}
 use Rattle.store.specs.declared.fault.Refusal.{Refusal}
 use Rattle.store.specs.declared.fault.Refusal.the-variants.{BadPart, BadEntry}
-use Rattle.store.specs.Refusals.{meaning, in-finder}
+use Rattle.store.specs.Refusals.{meaning, in-finder, Named, names-part, names-one-entry, names-one-pair}
 use Rattle.store.specs.Rules.{StoreRules}
 use Rattle.store.proofs.Decided.{Below}
 use Rattle.request.specs.declared.kinds.LogEntry.{LogEntry}
@@ -24,27 +24,27 @@ use Rattle.request.specs.Grounds.{PatternRules, PartRules, BindingRules, Count
 none-before : (c : Culprit) → Before c Nothing → ⊥
 none-before c b = elim b [ ]
 
-pub alone : (R : Asked) (k : Refusal) → AtFault R k Nothing → Faulted R k (in-finder k Nothing)
-alone R k h = record { refusal = refl; layer = refl; holds = h; first = λ c b f. none-before c b }
+pub alone : (R : Asked) (k : Refusal) → Named (meaning k .names) Nothing → AtFault R k Nothing → Faulted R k (in-finder k Nothing)
+alone R k n h = record { refusal = refl; layer = refl; named = n; holds = h; first = λ c b f. none-before c b }
 
 first-part : {R : Asked} {i : ℕ} {c : Culprit} → Below (λ _ p. PartRules (R .store) p) (parts R) i → Before c (Part i) → AtFault R BadPart c → ⊥
 first-part ok (lower-part {i = j} h) (bad-part p e no-good) = no-good (ok j h p e)
 
 pub at-part : (R : Asked) (i p : ℕ) → Below (λ _ q. PartRules (R .store) q) (parts R) i → part-at R i ≡ Some p → (PartRules (R .store) p → ⊥) → Faulted R BadPart (in-finder BadPart (Part i))
-at-part R i p ok e no-good = record { refusal = refl; layer = refl; holds = bad-part p e no-good; first = λ c b f. first-part ok b f }
+at-part R i p ok e no-good = record { refusal = refl; layer = refl; named = names-part; holds = bad-part p e no-good; first = λ c b f. first-part ok b f }
 
 first-entry : {R : Asked} {i : ℕ} {c : Culprit} → Below (λ _ e. EntryRules R e) (R .entries) i → Before c (Entry i) → AtFault R BadEntry c → ⊥
 first-entry ok (lower-entry {i = j} h) (bad-entry x e no-good) = no-good (ok j h x e)
 
 pub at-entry : (R : Asked) (i : ℕ) (x : LogEntry) → Below (λ _ e. EntryRules R e) (R .entries) i → nth (R .entries) i ≡ Some x → (EntryRules R x → ⊥) → Faulted R BadEntry (in-finder BadEntry (Entry i))
-at-entry R i x ok e no-good = record { refusal = refl; layer = refl; holds = bad-entry x e no-good; first = λ c b f. first-entry ok b f }
+at-entry R i x ok e no-good = record { refusal = refl; layer = refl; named = names-one-entry; holds = bad-entry x e no-good; first = λ c b f. first-entry ok b f }
 
 first-pair : {R : Asked} {i : ℕ} {c : Culprit} → EachEntry R → Below (PairRules R) (R .pairs) i → Before c (TablePair i) → AtFault R BadEntry c → ⊥
 first-pair each ok (lower-pair {i = j} h) (bad-pair x e no-good) = no-good (ok j h x e)
 first-pair each ok (entry-first {i = j}) (bad-entry x e no-good) = no-good (each j x e)
 
 pub at-pair : (R : Asked) (i : ℕ) (x : Pair) → EachEntry R → Below (PairRules R) (R .pairs) i → nth (R .pairs) i ≡ Some x → (PairRules R i x → ⊥) → Faulted R BadEntry (in-finder BadEntry (TablePair i))
-at-pair R i x each ok e no-good = record { refusal = refl; layer = refl; holds = bad-pair x e no-good; first = λ c b f. first-pair each ok b f }
+at-pair R i x each ok e no-good = record { refusal = refl; layer = refl; named = names-one-pair; holds = bad-pair x e no-good; first = λ c b f. first-pair each ok b f }
 
 -- a ground that has not been reached has too high a number
 pub clear : (R : Asked) (n : ℕ) → n ≤ 6 → (n ≤ 1) ⊎ StoreRules (R .store) → (n ≤ 2) ⊎ PatternRules R → (n ≤ 3) ⊎ EachPart R → (n ≤ 4) ⊎ BindingRules R → (n ≤ 5) ⊎ CountRules R → Clear R n

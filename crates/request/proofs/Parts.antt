@@ -13,22 +13,22 @@ use Rattle.std.specs.declared.option.Option.{Option}
 use Rattle.std.specs.declared.option.Option.the-variants.{Some, None}
 use Rattle.store.specs.declared.term.Term.{Term}
 use Rattle.store.specs.Rules.{StoreRules}
+use Rattle.store.specs.declared.fixed.Fixed.{Fixed}
+use Rattle.store.specs.Held.{held}
 use Rattle.store.specs.Tables.{Tables, term-at, children-in, kids}
 use Rattle.store.proofs.Decided.{some-not-none, passed, refused, all-nth, nth-inside}
-use Rattle.request.specs.declared.places.Places.{Places}
 use Rattle.request.specs.Asked.{Asked, part-at}
 use Rattle.request.specs.Grounds.{Quantified, PartRules, PlaceBound, PartBound}
-use Rattle.request.specs.Listed.{listed}
 use Rattle.request.specs.Places.{Preorder}
 use Rattle.request.proofs.Walks.{unique}
 
 -- what the listing of a term's places answers
-abbrev pub Lists : Tables → ℕ → Option Places → Type 0
-Lists S t o = Cases o ((ts : List ℕ) → Preorder S t ts → 64 < length ts) (λ p. Preorder S t (listed p) × (length (listed p) ≤ 64))
+abbrev pub Lists : Tables → ℕ → Option (Fixed ℕ 64) → Type 0
+Lists S t o = Cases o ((ts : List ℕ) → Preorder S t ts → 64 < length ts) (λ p. Preorder S t (held p) × (length (held p) ≤ 64))
 
-pub part-decided : (S : Tables) (t : ℕ) (o : Option Places) → (Quantified S t → ⊥) → Lists S t o → Decides (isSome o) (PartRules S t)
+pub part-decided : (S : Tables) (t : ℕ) (o : Option (Fixed ℕ 64)) → (Quantified S t → ⊥) → Lists S t o → Decides (isSome o) (PartRules S t)
 part-decided S t None plain over = refused (PartRules S t) (λ r. let far = over (r .places) (r .listed) in omega (arith, r .few))
-part-decided S t (Some p) plain got = passed (PartRules S t) (record { plain = plain; places = listed p; listed = got .0; few = got .1 })
+part-decided S t (Some p) plain got = passed (PartRules S t) (record { plain = plain; places = held p; listed = got .0; few = got .1 })
 
 -- the places are listed in one way only, so one list speaks for all
 pub bound-decided : (R : Asked) (t : ℕ) (ts : List ℕ) (r : Bool) → Preorder (R .store) t ts → Decides r (All (PlaceBound R) ts) → Decides r (PartBound R t)

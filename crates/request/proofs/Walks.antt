@@ -4,14 +4,9 @@ use mathlib.Core.List.{List, [], _∷_, _++_, append-nil, append-assoc}
 use Prim.Native.Nat.{ℕ, _+_, _<_, _≤_}
 use native.Mathlib.Omega.{arith}
 use lib.ListN.{length, getD, take, drop, length-append, take-append-drop}
-use Rattle.std.proofs.shelf.Lists.{drop-more, length-take-le, take-more, take-all}
+use Rattle.std.proofs.shelf.Lists.{drop-more, take-more, take-all}
 use Rattle.store.specs.Tables.{Tables}
-use Rattle.request.specs.declared.places.Places.{Places}
-use Rattle.request.specs.Listed.{listed}
 use Rattle.request.specs.Places.{Preorder, Preorders, place, none, more, opened}
-
-pub long : (p : Places) → length (listed p) ≡ p .len
-long p = length-take-le (p .len) (p .terms) (omega (arith, p .few, p .room))
 
 pub some-place : {S : Tables} {t : ℕ} {ts : List ℕ} → Preorder S t ts → 0 < length ts
 some-place (place p) = omega arith

@@ -16,7 +16,7 @@ use Rattle.store.specs.declared.fault.Refusal.{Refusal}
 use Rattle.store.specs.declared.fault.Refusal.the-variants.{StoreBroken, BadPattern, BadPart, BadBindings, BadEntryCount, BadEntry}
 use Rattle.store.specs.declared.term.Term.{Term}
 use Rattle.store.specs.declared.term.TermKind.the-variants.{App, Quant}
-use Rattle.store.specs.Refusals.{meaning}
+use Rattle.store.specs.Refusals.{meaning, Named}
 use Rattle.store.specs.Rules.{StoreRules}
 use Rattle.store.specs.Tables.{Tables, term-at, kids, owner-of, Closed}
 use Rattle.request.specs.declared.kinds.LogEntry.{LogEntry}
@@ -115,6 +115,7 @@ pub data Before : Culprit → Culprit → Type 0 where
 pub record Faulted (R : Asked) (k : Refusal) (f : Fault) : Type 0 where
   pub refusal : f .refusal ≡ k
   pub layer : f .layer ≡ Finder
+  pub named : Named (meaning k .names) (f .culprit)
   pub holds : AtFault R k (f .culprit)
   pub first : (c : Culprit) → Before c (f .culprit) → AtFault R k c → ⊥
 

@@ -1,5 +1,4 @@
 pub mod Bindings
-pub mod Listed
 pub mod Asked
 pub mod Places
 pub mod Grounds

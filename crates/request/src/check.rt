@@ -12,7 +12,7 @@ ghost use Rattle.store.specs.declared.fault.Refusal.the-variants.{BadPattern, B
 ghost use Rattle.store.specs.Rules.{StoreRules};
 use crate::kinds::LogEntry;
 use crate::kinds::Pair;
-use crate::places::walk::variable_at;
+use crate::places::variable_at;
 use crate::request::Request;
 use store::Culprit;
 use store::Fault;

@@ -4,14 +4,15 @@ ghost use mathlib.Core.List.{List};
 ghost use mathlib.Core.Path.{_≡_};
 ghost use Prim.Native.Nat.{ℕ, _<_, _≤_};
 ghost use Rattle.request.specs.Asked.{asked, parts, entry-term, entry-pairs};
-ghost use Rattle.request.specs.Listed.{listed};
 ghost use Rattle.request.specs.Places.{Preorder, variable-at, opened};
 ghost use Rattle.std.specs.Options.{Cases, mapped};
+ghost use Rattle.store.specs.Held.{held};
 ghost use Rattle.store.specs.Tables.{tables};
 use crate::kinds::LogEntry;
 use crate::kinds::MatchKind;
 use crate::kinds::Pair;
 use crate::places::Places;
+use crate::places::walk;
 use store::Store;
 use store::cut;
 use store::lookup;
@@ -54,10 +55,10 @@ impl<'a> Request<'a> {
 
     // The places of a term in preorder; none where they are over 64.
     pub fn places(self, term: usize) -> Option<Places>
-        ensures { λ r. ⌜ Cases r ((ts : List ℕ) → Preorder (asked (self .entry) .store) term ts → 64 < length ts) (λ p. Preorder (asked (self .entry) .store) term (listed p) × (length (listed p) ≤ 64)) ⌝ }
+        ensures { λ r. ⌜ Cases r ((ts : List ℕ) → Preorder (asked (self .entry) .store) term ts → 64 < length ts) (λ p. Preorder (asked (self .entry) .store) term (held p) × (length (held p) ≤ 64)) ⌝ }
     {
-        let mut out = Places::new();
-        if out.walk(self.store, term) {
+        let mut out = Places::new(0);
+        if walk(self.store, term, &mut out) {
             Some(out)
         } else {
             None

@@ -1,6 +1,7 @@
 -- The refusals: the number of each, and what each names as at fault.
 use Prim.Native.Nat.{ℕ}
 use Rattle.store.specs.declared.fault.Culprit.{Culprit}
+use Rattle.store.specs.declared.fault.Culprit.the-variants.{Nothing, Part, Entry, TablePair, FoundPair}
 use Rattle.store.specs.declared.fault.Fault.{Fault}
 use Rattle.store.specs.declared.fault.Layer.the-variants.{Finder}
 use Rattle.store.specs.declared.fault.Refusal.{Refusal}
@@ -34,6 +35,15 @@ meaning BadEnds = record { number = 12; names = found-pair }
 meaning EndsApart = record { number = 13; names = found-pair }
 meaning EndsLooselyJoined = record { number = 14; names = found-pair }
 meaning HostFull = record { number = 15; names = found-pair }
+
+-- a culprit is of the kind that a refusal names
+pub data Named : Names → Culprit → Type 0 where
+  names-nothing : Named nothing Nothing
+  names-part : {i : ℕ} → Named a-part (Part i)
+  names-entry : {j : ℕ} → Named an-entry (Entry j)
+  names-one-entry : {j : ℕ} → Named entry-or-pair (Entry j)
+  names-one-pair : {k : ℕ} → Named entry-or-pair (TablePair k)
+  names-found : {i j k : ℕ} → Named found-pair (FoundPair i j k)
 
 -- a fault that arose in the finder's own layer
 abbrev pub in-finder : Refusal → Culprit → Fault

@@ -3,6 +3,7 @@ use mathlib.Core.Logic.{inl, inr}
 use native.Mathlib.Omega.{arith}
 use Rattle.std.proofs.shelf.Results.{err-from-errBy}
 use Rattle.store.specs.declared.fault.Refusal.the-variants.{StoreBroken, BadPattern, BadPart, BadBindings, BadEntryCount, BadEntry}
+use Rattle.store.specs.Refusals.{names-nothing}
 use Rattle.request.specs.Asked.{asked}
 use Rattle.request.specs.Grounds.{Faulted, store-broken}
 use Rattle.request.proofs.Faults.{alone, clear, broke, settled}
@@ -13,7 +14,7 @@ pub returns-in-Break-check : need.returns-in-Break-check
 returns-in-Break-check c =
     let R = asked (c .args .self) in
     let p = err-from-errBy (c .from-residual .result) (c .from-residual .ensures .1) in
-    record { answer = broke R StoreBroken _ _ _ (p .1) (p .2) (subst (Faulted R StoreBroken) (sym (c .in-Break-check .ensures tt .1)) (alone R StoreBroken (store-broken (c .in-Break-check .ensures tt .0)))) (clear R 1 (omega arith) (inl (omega arith)) (inl (omega arith)) (inl (omega arith)) (inl (omega arith)) (inl (omega arith))); laws = admitted-keeps }
+    record { answer = broke R StoreBroken _ _ _ (p .1) (p .2) (subst (Faulted R StoreBroken) (sym (c .in-Break-check .ensures tt .1)) (alone R StoreBroken names-nothing (store-broken (c .in-Break-check .ensures tt .0)))) (clear R 1 (omega arith) (inl (omega arith)) (inl (omega arith)) (inl (omega arith)) (inl (omega arith)) (inl (omega arith))); laws = admitted-keeps }
 
 pub returns-in-Break-check-pattern : need.returns-in-Break-check-pattern
 returns-in-Break-check-pattern c =

@@ -5,13 +5,14 @@ use Rattle.std.proofs.shelf.Maps.{nth-getD}
 use Rattle.std.proofs.shelf.Ways.{not-from-decides}
 use Rattle.store.specs.declared.fault.Refusal.the-variants.{BadBindings}
 use Rattle.store.proofs.Decided.{Each, below-none, below-next, below-all}
+use Rattle.store.specs.Refusals.{names-nothing}
 use Rattle.request.specs.Asked.{asked}
 use Rattle.request.specs.Grounds.{PartBound, Faulted, bad-bindings}
 use Rattle.request.proofs.Faults.{alone}
 use Rattle.request.proofs.request.Request.check_bindings.Needs as need
 
 pub returns-then-count-gt-MOST-BINDINGS : need.returns-then-count-gt-MOST-BINDINGS
-returns-then-count-gt-MOST-BINDINGS c = subst (Faulted (asked (c .args .self)) BadBindings) (sym (c .finder-fault .ensures)) (alone _ BadBindings (bad-bindings (λ r. omega (arith, r .few, c .count .ensures))))
+returns-then-count-gt-MOST-BINDINGS c = subst (Faulted (asked (c .args .self)) BadBindings) (sym (c .finder-fault .ensures)) (alone _ BadBindings names-nothing (bad-bindings (λ r. omega (arith, r .few, c .count .ensures))))
 
 pub loop-i-holds : need.loop-i-holds
 loop-i-holds c = below-none (λ _ p. PartBound (asked (c .args .self)) p) _
@@ -21,7 +22,7 @@ is-part-bound-requires c κs = c .pre (c .loop-i .i) _ (ap (λ l. nth l (c .loop
 
 pub returns-then-not-is-part-bound : need.returns-then-not-is-part-bound
 returns-then-not-is-part-bound c = subst (Faulted (asked (c .args .self)) BadBindings) (sym (c .finder-fault .ensures))
-    (alone _ BadBindings (bad-bindings (λ r. not-from-decides _ (c .is-part-bound .ensures) (c .if-not-is-part-bound .taken) (r .closed (c .loop-i .i) _ (ap (λ l. nth l (c .loop-i .i)) (sym (c .parts-parts .ensures)) ∙ nth-getD _ _ _ (c .loop-i-test .taken))))))
+    (alone _ BadBindings names-nothing (bad-bindings (λ r. not-from-decides _ (c .is-part-bound .ensures) (c .if-not-is-part-bound .taken) (r .closed (c .loop-i .i) _ (ap (λ l. nth l (c .loop-i .i)) (sym (c .parts-parts .ensures)) ∙ nth-getD _ _ _ (c .loop-i-test .taken))))))
 
 pub loop-i-again : need.loop-i-again
 loop-i-again c = below-next (λ _ p. PartBound (asked (c .args .self)) p) _ _ _ (nth-getD _ _ _ (c .loop-i-test .taken)) (c .is-part-bound .ensures .0 (c .if-not-is-part-bound .left)) (c .loop-i .inv)

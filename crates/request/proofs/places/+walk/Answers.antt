@@ -1,18 +1,19 @@
 use mathlib.Core.Path.{sym}
 use mathlib.Core.List.{[], append-nil}
 use native.Mathlib.Omega.{arith}
+use Rattle.store.proofs.Holding.{held-long}
 use Rattle.request.specs.Places.{none}
-use Rattle.request.proofs.Walks.{long, longer, some-place, too-many, listed-all, one-more}
-use Rattle.request.proofs.places.Places.+walk.Needs as need
+use Rattle.request.proofs.Walks.{longer, some-place, too-many, listed-all, one-more}
+use Rattle.request.proofs.places.+walk.Needs as need
 
 pub returns-then-not-push : need.returns-then-not-push
-returns-then-not-push t c = λ ts p. omega (arith, some-place p, c .if-not-push .ensures tt)
+returns-then-not-push t c = λ ts p. omega (arith, some-place p, c .if-not-push .ensures tt .0)
 
 pub walk-requires : need.walk-requires
 walk-requires t c κs =
     let inv = c .loop-c .inv in
     let more = longer _ _ _ (inv .0) _ (c .if-not-push .ensures tt) (inv .2) in
-    (omega (arith, long (c .args .self .now), long (c .loop-c .self), c .measured), tt)
+    (omega (arith, held-long (c .args .out .now), held-long (c .loop-c .out), c .loop-c .out .few, c .measured), tt)
 
 pub loop-c-holds : need.loop-c-holds
 loop-c-holds t c = ([], none, sym (append-nil _))
