@@ -1,5 +1,8 @@
 pub mod Cuts
+pub mod Given
 pub mod Held
 pub mod Numerals
+pub mod Offering
 pub mod Once
 pub mod Read
+pub mod Same

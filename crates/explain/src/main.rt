@@ -1,11 +1,14 @@
 // Reads requests as text and says of each whether it is admitted, and what it holds.
 mod arguments;
 mod expected;
+mod host_tables;
 mod host_text;
 mod number;
+mod offers;
 mod parse;
 mod reader;
 mod show;
+mod show_host;
 mod tables;
 mod text;
 mod words;

@@ -12,6 +12,7 @@ use crate::number::parse_number;
 use crate::text::Action;
 use crate::text::Bindings;
 use crate::text::Kind;
+use crate::text::Query;
 use crate::text::RequestText;
 use crate::words::Words;
 use crate::words::WordsIterator;
@@ -166,6 +167,7 @@ impl<'a> Item<'a> {
             b"link" => read_class(ClassKind::Link, &mut words)?,
             b"version" => read_version(&mut words)?,
             b"find" => read_find(&mut words)?,
+            b"offers" => read_offers(&mut words)?,
             b"round" => Item::Action(Action::Round {
                 kind: next(&mut words)?,
             }),
@@ -268,4 +270,17 @@ fn read_find<'a>(words: &mut Words<'a>) -> Result<Item<'a>, Expected> {
     let part = next(words)?;
     let entry = next(words)?;
     Ok(Item::Action(Action::Find { kind, part, entry }))
+}
+
+fn read_offers<'a>(words: &mut Words<'a>) -> Result<Item<'a>, Expected> {
+    let kind = next(words)?;
+    let entry = next(words)?;
+    let term = next(words)?;
+    let pattern_term = next(words)?;
+    Ok(Item::Action(Action::Offers(Query {
+        kind,
+        entry,
+        term,
+        pattern_term,
+    })))
 }

@@ -101,7 +101,7 @@ impl Reader<'_> {
 
     fn finish(&self, state: State) -> Result<(), AnyError> {
         if let State::Reading(text) = state {
-            show(self.rt, text.request())?;
+            show(self.rt, &text)?;
         }
         Ok(())
     }

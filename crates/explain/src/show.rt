@@ -1,5 +1,15 @@
 // What is printed of a request.
+use crate::host_text::ClassKind;
+use crate::offers::show_offers;
+use crate::show_host::show_host;
+use crate::text::Action;
+use crate::text::RequestText;
+use host::Host;
+use host::LinksPartition;
+use host::NumbersPartition;
+use host::TableHostHost;
 use request::Request;
+use std::error::AnyError;
 use std::fmt;
 use std::io;
 use store::Culprit;
@@ -7,13 +17,39 @@ use store::Fault;
 use store::Layer;
 use store::Store;
 
-pub fn show(rt: &LibcRuntime, request: Request) -> io::Result<()> {
+pub fn show(rt: &LibcRuntime, text: &RequestText) -> Result<(), AnyError> {
+    let request = text.request();
     if let Err(fault) = request.check() {
-        return rt.println(Refused(fault));
+        rt.println(Refused(fault))?;
+        return Ok(());
     }
     rt.println("admitted")?;
     show_parts(rt, request)?;
-    show_entries(rt, request)
+    show_entries(rt, request)?;
+    show_hosted(rt, text)
+}
+
+// What needs the host.
+fn show_hosted(rt: &LibcRuntime, text: &RequestText) -> Result<(), AnyError> {
+    let store = text.request().store;
+    let tables = text.host
+        .tables(store.terms.len(), store.nodes.len(), rt.alloc())?;
+    match tables.class_kind {
+        ClassKind::Class => show_asked(rt, text, &tables.by_numbers()),
+        ClassKind::Link => show_asked(rt, text, &tables.by_links()),
+    }
+}
+
+fn show_asked<H: Host>(rt: &LibcRuntime, text: &RequestText, host: &H) -> Result<(), AnyError> {
+    let request = text.request();
+    show_host(rt, request.store, host)?;
+    for action in text.actions() {
+        match *action {
+            Action::Offers(query) => show_offers(rt, request, host, query)?,
+            Action::Find { .. } | Action::Round { .. } => {}
+        }
+    }
+    Ok(())
 }
 
 fn show_parts(rt: &LibcRuntime, request: Request) -> io::Result<()> {
@@ -86,9 +122,9 @@ impl fmt::Display for Matches<'_> as MatchesDisplay {
 }
 
 #[derive(Clone, Copy)]
-struct Refused(Fault);
+pub struct Refused(pub Fault);
 
-impl fmt::Display for Refused as RefusedDisplay {
+pub impl fmt::Display for Refused as RefusedDisplay {
     fn fmt<W: fmt::Write>(&self, f: &mut fmt::Formatter<W>) -> fmt::Result {
         let fault = self.0;
         let number = fault.refusal.number();

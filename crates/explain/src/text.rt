@@ -19,6 +19,7 @@ use request::Request;
 use request::TermIdx;
 use std::alloc::AllocError;
 use std::alloc::Global;
+use std::fmt;
 use store::Span;
 
 // No term has this number.
@@ -50,6 +51,17 @@ pub enum Kind {
     Force,
 }
 
+impl Kind {
+    fn word(self) -> &'static str {
+        match self {
+            Kind::Basic => "basic",
+            Kind::Complex => "complex",
+            Kind::Custom => "custom",
+            Kind::Force => "force",
+        }
+    }
+}
+
 #[derive(Clone, Copy)]
 pub enum Action {
     Find {
@@ -60,6 +72,26 @@ pub enum Action {
     Round {
         kind: Kind,
     },
+    Offers(Query),
+}
+
+// What a rewriter over an entry's pairs is asked: what it offers at a term and a pattern term.
+#[derive(Clone, Copy)]
+pub struct Query {
+    pub kind: Kind,
+    pub entry: usize,
+    pub term: usize,
+    pub pattern_term: usize,
+}
+
+pub impl fmt::Display for Query as QueryDisplay {
+    fn fmt<W: fmt::Write>(&self, f: &mut fmt::Formatter<W>) -> fmt::Result {
+        let kind = self.kind.word();
+        let entry = self.entry;
+        let term = self.term;
+        let pattern_term = self.pattern_term;
+        write!(f, "offers {kind} {entry} {term} {pattern_term}")
+    }
 }
 
 #[derive(Drop)]
@@ -119,9 +151,18 @@ impl RequestText {
         Ok(())
     }
 
-    pub fn add_action(&mut self, action: Action) -> Result<(), AllocError> {
+    pub fn add_action(&mut self, action: Action) -> Result<(), AllocError>
+        ensures { λ r. ⌜ made r (λ _. vec-items (now (self .exit) .actions) ≡ vec-items (now (self .entry) .actions) ++ (action ∷ [])) ⌝ }
+    {
         self.actions.push(action)?;
         Ok(())
+    }
+
+    // What to do, in order.
+    pub fn actions(&self) -> &[Action]
+        ensures { λ r. ⌜ now r ≡ vec-items (now (self .entry) .actions) ⌝ }
+    {
+        self.actions.as_slice()
     }
 
     fn bound(&self) -> MatchKind<'_>
