@@ -60,7 +60,7 @@ impl Reader<'_> {
     fn begin(&mut self, words: Words) -> Result<State, AnyError> {
         let number = self.requests;
         self.requests = number.saturating_add(1);
-        println!(self.rt, "request {number}")?;
+        println!(self.rt, "request #{number}")?;
         if let Err(e) = no_more(words) {
             self.say(e)?;
             return Ok(State::Skipping);
