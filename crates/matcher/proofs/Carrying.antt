@@ -25,9 +25,9 @@ use Rattle.rewrite.specs.Kinds.{custom, force, ends-as, live-ends, if-same, sam
 use Rattle.rewrite.specs.Keeping.{custom-steady, force-steady}
 use Rattle.matcher.specs.Derivations.{Nth, Offered, Derives, DerivesAll, First}
 use Rattle.matcher.specs.Laws.{answers, FindsFirst, OffersMore, MoreFinds, CustomFinds, ForceFinds}
-use Rattle.matcher.specs.Search.{Asking, Hit, asking, search, if-finished, found, ends}
+use Rattle.matcher.specs.Search.{Asking, Hit, asking, seek, if-finished, found, ends}
 use Rattle.matcher.specs.Trees.{Pat, Pats, hole, ground, app, end, more, View, part, part-in, tree-of, tree-as, all-trees, view}
-use Rattle.matcher.proofs.Firsts.{FirstAt, search-first}
+use Rattle.matcher.proofs.Firsts.{FirstAt, seek-first}
 
 -- what holds of every application that is opened in a tree
 abbrev mutual
@@ -86,7 +86,7 @@ steady-found ρ D st (Some h) steady f = go (ρ .finished (h .state)) (steady .d
 
 pub finds-first : FindsFirst
 finds-first V ρ m ns p b steady =
-    steady-found ρ (Derives V (answers ρ m ns) p b) (ρ .first) (search V (asking ρ m ns) p b (ρ .first)) steady (search-first V (asking ρ m ns) (ρ .first) (λ b s. steady .stays (ρ .first) (query m ns b s)) p b)
+    steady-found ρ (Derives V (answers ρ m ns) p b) (ρ .first) (seek V (asking ρ m ns) p b (ρ .first)) steady (seek-first V (asking ρ m ns) (ρ .first) (λ b s. steady .stays (ρ .first) (query m ns b s)) p b)
 
 pub some-derived : (D : List ℕ → List Pair → Type 0) (r : Option (List Pair)) → First D r → isSome r ≡ true → (cs : List ℕ) × (xs : List Pair) × D cs xs
 some-derived D None f e = absurd (true≢false (sym e))

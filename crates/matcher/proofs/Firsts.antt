@@ -16,7 +16,7 @@ use Rattle.request.specs.declared.kinds.Pair.{Pair}
 use Rattle.rewrite.specs.Meaning.{Offers}
 use Rattle.matcher.specs.Derivations.{Nth, Offered, Derives, DerivesAll, Earlier, First}
 use Rattle.matcher.specs.Derivations.Nth.{first, later}
-use Rattle.matcher.specs.Search.{Asking, Hit, hit, behind, follow, else-do, ends, try-offers, by-offers, if-owned, if-fits, exact, to-bound, at-app, search, search-all}
+use Rattle.matcher.specs.Search.{Asking, Hit, hit, behind, follow, else-do, ends, try-offers, by-offers, if-owned, if-fits, exact, to-bound, at-app, seek, seek-all}
 use Rattle.matcher.specs.Trees.{Pat, Pats, hole, ground, app, end, more, View}
 
 -- the first, from a search that leaves the rewriter in state st
@@ -309,12 +309,12 @@ module _ (V : View) (A : Asking) (st : ℕ) (stays : (b s : ℕ) → A .next st 
   no-terms d = elim d [ ]
 
   mutual
-    pub search-first : (p : Pat) (b : ℕ) → FirstAt st (D p b) (search V A p b st)
-    search-first (hole s o) b = variable-first s b o
-    search-first (ground t) b = exact-first t b
-    search-first (app s ps) b = app-first s ps (λ bs st′. search-all V A ps bs st′) (λ bs. all-first ps bs) b
+    pub seek-first : (p : Pat) (b : ℕ) → FirstAt st (D p b) (seek V A p b st)
+    seek-first (hole s o) b = variable-first s b o
+    seek-first (ground t) b = exact-first t b
+    seek-first (app s ps) b = app-first s ps (λ bs st′. seek-all V A ps bs st′) (λ bs. all-first ps bs) b
 
-    pub all-first : (ps : Pats) (bs : List ℕ) → FirstAt st (DAll ps bs) (search-all V A ps bs st)
+    pub all-first : (ps : Pats) (bs : List ℕ) → FirstAt st (DAll ps bs) (seek-all V A ps bs st)
     all-first end bs = (refl, ([], DerivesAll.none-left, λ ds ys d. inl (only-end d)))
     all-first (more p ps) [] = λ cs xs d. no-terms d
-    all-first (more p ps) (b ∷ bs) = follow-first p ps b bs (search V A p b st) (λ st′. search-all V A ps bs st′) (search-first p b) (all-first ps bs)
+    all-first (more p ps) (b ∷ bs) = follow-first p ps b bs (seek V A p b st) (λ st′. seek-all V A ps bs st′) (seek-first p b) (all-first ps bs)

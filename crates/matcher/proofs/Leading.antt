@@ -16,7 +16,7 @@ use Rattle.host.specs.Reading.{is-the}
 use Rattle.rewrite.specs.Meaning.{Offers, RewriterMeaning, query}
 use Rattle.matcher.specs.Derivations.{Leads, LeadsAll}
 use Rattle.matcher.specs.Laws.{FoundLeads}
-use Rattle.matcher.specs.Search.{Asking, Hit, hit, asking, behind, follow, else-do, ends, try-offers, by-offers, if-owned, if-fits, exact, to-bound, at-app, search, search-all, if-finished, found}
+use Rattle.matcher.specs.Search.{Asking, Hit, hit, asking, behind, follow, else-do, ends, try-offers, by-offers, if-owned, if-fits, exact, to-bound, at-app, seek, seek-all, if-finished, found}
 use Rattle.matcher.specs.Trees.{Pat, Pats, hole, ground, app, end, more, View, view}
 
 -- what a search gives, if it gives anything
@@ -117,15 +117,15 @@ module _ (V : View) (A : Asking) (leave : (st b s : ℕ) (o : Offers) → A .ask
             (λ o f m xs g. Leads.rewritten ne (leave st b s o f) (g .is) (g .fits) (g .below)))
 
   mutual
-    pub search-leads : (p : Pat) (b st : ℕ) → Gives (Leads V p b) (search V A p b st)
-    search-leads (hole s o) b st = variable-leads s b st o
-    search-leads (ground t) b st = exact-leads t b st
-    search-leads (app s ps) b st = app-leads s ps (λ bs st′. search-all V A ps bs st′) (λ bs st′. all-lead ps bs st′) b st
+    pub seek-leads : (p : Pat) (b st : ℕ) → Gives (Leads V p b) (seek V A p b st)
+    seek-leads (hole s o) b st = variable-leads s b st o
+    seek-leads (ground t) b st = exact-leads t b st
+    seek-leads (app s ps) b st = app-leads s ps (λ bs st′. seek-all V A ps bs st′) (λ bs st′. all-lead ps bs st′) b st
 
-    pub all-lead : (ps : Pats) (bs : List ℕ) (st : ℕ) → Gives (LeadsAll V ps bs) (search-all V A ps bs st)
+    pub all-lead : (ps : Pats) (bs : List ℕ) (st : ℕ) → Gives (LeadsAll V ps bs) (seek-all V A ps bs st)
     all-lead end bs st = LeadsAll.none-left
     all-lead (more p ps) [] st = tt
-    all-lead (more p ps) (b ∷ bs) st = follow-gives (Leads V p b) (LeadsAll V ps bs) (LeadsAll V (more p ps) (b ∷ bs)) (search V A p b st) (λ st′. search-all V A ps bs st′) (search-leads p b st) (λ st′. all-lead ps bs st′) (λ xs ys d e. LeadsAll.one-more d e)
+    all-lead (more p ps) (b ∷ bs) st = follow-gives (Leads V p b) (LeadsAll V ps bs) (LeadsAll V (more p ps) (b ∷ bs)) (seek V A p b st) (λ st′. seek-all V A ps bs st′) (seek-leads p b st) (λ st′. all-lead ps bs st′) (λ xs ys d e. LeadsAll.one-more d e)
 
 finished-gives : (ρ : RewriterMeaning) (P : List Pair → Type 0) (r : Option Hit) (xs : List Pair) → Gives P r → if-finished ρ r ≡ Some xs → P xs
 finished-gives ρ P None xs g e = absurd (some-not-none None xs refl e)
@@ -137,5 +137,5 @@ finished-gives ρ P (Some h) xs g e = go (ρ .finished (h .state)) e
 
 pub found-leads : FoundLeads
 found-leads S ρ m ns p b xs rules proper e =
-    finished-gives ρ (Leads (view S) p b) (search (view S) (asking ρ m ns) p b (ρ .first)) xs
-    (search-leads (view S) (asking ρ m ns) (λ st b s o f. rules .from-owned st (query m ns b s) o (proper b s) f) p b (ρ .first)) e
+    finished-gives ρ (Leads (view S) p b) (seek (view S) (asking ρ m ns) p b (ρ .first)) xs
+    (seek-leads (view S) (asking ρ m ns) (λ st b s o f. rules .from-owned st (query m ns b s) o (proper b s) f) p b (ρ .first)) e

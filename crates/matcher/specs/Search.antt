@@ -75,16 +75,16 @@ module _ (V : View) (A : Asking) where
   at-app kr s b st = cond (eqb b s) (Some (hit [] st)) (else-do (if-fits V kr s (Some b) st) (by-offers (λ m st′. if-fits V kr s (V .owner m) st′) (A .ask st b s) (A .next st b s)))
 
   abbrev mutual
-    pub search : Pat → ℕ → ℕ → Option Hit
-    search (hole s o) b st = cond (eqb b s) (Some (hit [] st)) (to-bound o b st)
-    search (ground t) b st = exact t b st
-    search (app s ps) b st = at-app (λ bs st′. search-all ps bs st′) s b st
+    pub seek : Pat → ℕ → ℕ → Option Hit
+    seek (hole s o) b st = cond (eqb b s) (Some (hit [] st)) (to-bound o b st)
+    seek (ground t) b st = exact t b st
+    seek (app s ps) b st = at-app (λ bs st′. seek-all ps bs st′) s b st
 
     -- the children in order; when one fails, no earlier choice is revised
-    pub search-all : Pats → List ℕ → ℕ → Option Hit
-    search-all end bs st = Some (hit [] st)
-    search-all (more p ps) [] st = None
-    search-all (more p ps) (b ∷ bs) st = follow (search p b st) (λ st′. search-all ps bs st′)
+    pub seek-all : Pats → List ℕ → ℕ → Option Hit
+    seek-all end bs st = Some (hit [] st)
+    seek-all (more p ps) [] st = None
+    seek-all (more p ps) (b ∷ bs) st = follow (seek p b st) (λ st′. seek-all ps bs st′)
 
 -- found only if the rewriter is finished then
 abbrev pub if-finished : RewriterMeaning → Option Hit → Option (List Pair)
@@ -92,4 +92,4 @@ if-finished ρ None = None
 if-finished ρ (Some h) = cond (ρ .finished (h .state)) (Some (h .pairs)) None
 
 abbrev pub found : View → RewriterMeaning → HostMeaning → List ℕ → Pat → ℕ → Option (List Pair)
-found V ρ m ns p b = if-finished ρ (search V (asking ρ m ns) p b (ρ .first))
+found V ρ m ns p b = if-finished ρ (seek V (asking ρ m ns) p b (ρ .first))
