@@ -1,3 +1,10 @@
 pub mod Firsts
 pub mod Carrying
 pub mod Leading
+pub mod Running
+pub mod Depth
+pub mod Offering
+pub mod Turning
+pub mod Advancing
+pub mod Missing
+pub mod Searching

@@ -1,15 +1,13 @@
-// What a search from a term to a part means, and what it achieves.
+// The search from a term to a part of the pattern, what it means and what it achieves.
 ghost use Rattle.matcher.specs.Cases.{EightCases};
-ghost use Rattle.matcher.specs.Laws.{FindsFirst, MoreFinds, CustomFinds, ForceFinds, FoundLeads};
 
-// The laws of the search, over every store, host and rewriter that keep their rules.
-pub fn search_laws()
-    ensures finds_first { λ _. ⌜ FindsFirst ⌝ }
-    ensures more_finds { λ _. ⌜ MoreFinds ⌝ }
-    ensures custom_finds { λ _. ⌜ CustomFinds ⌝ }
-    ensures force_finds { λ _. ⌜ ForceFinds ⌝ }
-    ensures found_leads { λ _. ⌜ FoundLeads ⌝ }
-{}
+mod exact;
+mod level;
+mod machine;
+mod place;
+
+pub use machine::Pairs;
+pub use machine::PatternMatcher;
 
 // The eight worked cases, as one set.
 pub fn worked_cases()

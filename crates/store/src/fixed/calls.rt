@@ -1,8 +1,9 @@
 // What a fixed list holds, and one item more.
-ghost use lib.ListN.{length};
+ghost use lib.ListN.{length, take};
 ghost use mathlib.Core.List.{[], _++_, _∷_};
 ghost use mathlib.Core.Path.{_≡_};
 ghost use Rattle.std.specs.Finite.{nth};
+ghost use Rattle.std.specs.Options.{Cases};
 ghost use Rattle.std.specs.Orderings.{When};
 ghost use Rattle.store.specs.Held.{held};
 use super::Fixed;
@@ -50,5 +51,26 @@ impl<T: Copy, const N: usize> Fixed<T, N> {
         ensures { λ r. ⌜ r ≡ nth (held (now (self .entry))) i ⌝ }
     {
         lookup(self.as_slice(), i)
+    }
+
+    // The last item, which is taken off.
+    pub fn pop(&mut self) -> Option<T>
+        ensures { λ r. ⌜ Cases r ((held (now (self .entry)) ≡ []) × (now (self .exit) ≡ now (self .entry))) (λ x. held (now (self .entry)) ≡ held (now (self .exit)) ++ x ∷ []) ⌝ }
+    {
+        let n = self.len;
+        if n == 0 {
+            return None;
+        }
+        self.len = n - 1;
+        Some(self.items[n - 1])
+    }
+
+    // Keeps the first n items at most.
+    pub fn truncate(&mut self, n: usize)
+        ensures { λ _. ⌜ held (now (self .exit)) ≡ take n (held (now (self .entry))) ⌝ }
+    {
+        if n < self.len {
+            self.len = n;
+        }
     }
 }
