@@ -43,7 +43,14 @@ module _ (R : Asked) (M : PatternMatcher) (b s : ℕ) (new : Starts b s M) where
   start-answer : (A : Asking) (st : ℕ) → machine-left R A M st .answer ≡ seek (view (R .store)) A (part R s) b st
   start-answer A st = ap (λ (r : Run). r .answer) (λ i. left R A (empty i) (new .pairs i) (new .mode i) st) ∙ runs-alike (view (R .store)) A (part R s) b st
 
-  module _ (ρ : RewriterMeaning) (m : HostMeaning) (ns : List ℕ) (M′ : PatternMatcher) (st st′ : ℕ) (fin : Finite R s) (first : st ≡ ρ .first) (ends : Ends R (asking ρ m ns) M st M′ st′) where
+  -- ρ is the rewriter's meaning before the reset, after it, and after the run
+  module _ (ρ ρ₁ ρ₂ : RewriterMeaning) (m : HostMeaning) (ns : List ℕ) (M′ : PatternMatcher) (st st′ : ℕ) (fin : Finite R s) (first : st ≡ ρ .first) (was : ρ₁ ≡ ρ) (kept : ρ₂ ≡ ρ₁) (ended : Ends R (asking ρ₁ m ns) M st M′ st′) where
+    ends : Ends R (asking ρ m ns) M st M′ st′
+    ends = subst (λ r. Ends R (asking r m ns) M st M′ st′) was ended
+
+    finished-as : ρ .finished st′ ≡ ρ₂ .finished st′
+    finished-as = ap (λ (r : RewriterMeaning). r .finished st′) (sym (kept ∙ was))
+
     sought : seek (view (R .store)) (asking ρ m ns) (part R s) b (ρ .first) ≡ stopped-with (M′ .mode) (held (M′ .pairs)) st′
     sought = ap (λ x. seek (view (R .store)) (asking ρ m ns) (part R s) b x) (sym first) ∙ sym (start-answer (asking ρ m ns) st) ∙ ends
 
@@ -52,8 +59,8 @@ module _ (R : Asked) (M : PatternMatcher) (b s : ℕ) (new : Starts b s M) where
     found-if Hit q e f = (ap (λ q. cond q (Some (held (M′ .pairs))) None) (e ∙ f), ap (λ q. cond q st′ (ρ .first)) (e ∙ f))
     found-if Miss q e f = absurd (true-false f)
 
-    pub found-at : success (M′ .mode) (ρ .finished st′) ≡ true → Searched R ρ m ns b s (Some (held (M′ .pairs))) st′
-    found-at done = let some = found-if (M′ .mode) (ρ .finished st′) refl done in record {
+    pub found-at : success (M′ .mode) (ρ₂ .finished st′) ≡ true → Searched R ρ m ns b s (Some (held (M′ .pairs))) st′
+    found-at done = let some = found-if (M′ .mode) (ρ₂ .finished st′) finished-as done in record {
       finds = λ _. sym (ap (if-finished ρ) sought ∙ some .0);
       leaves = λ _. sym (ap (ends-in ρ) sought ∙ some .1);
       too-large = λ big. absurd (big fin);
@@ -64,9 +71,9 @@ module _ (R : Asked) (M : PatternMatcher) (b s : ℕ) (new : Starts b s M) where
     none-if Hit q e f = (ap (λ q. cond q (Some (held (M′ .pairs))) None) (e ∙ f), ap (λ q. cond q st′ (ρ .first)) (e ∙ f))
     none-if Miss q e f = (refl, refl)
 
-    pub missed-at : (st″ : ℕ) → success (M′ .mode) (ρ .finished st′) ≡ false → st″ ≡ ρ .first → Searched R ρ m ns b s None st″
-    missed-at st″ done back = let none = none-if (M′ .mode) (ρ .finished st′) refl done in record {
+    pub missed-at : (st″ : ℕ) → success (M′ .mode) (ρ₂ .finished st′) ≡ false → st″ ≡ ρ₂ .first → Searched R ρ m ns b s None st″
+    missed-at st″ done back = let none = none-if (M′ .mode) (ρ₂ .finished st′) finished-as done in record {
       finds = λ _. sym (ap (if-finished ρ) sought ∙ none .0);
-      leaves = λ _. back ∙ sym (ap (ends-in ρ) sought ∙ none .1);
+      leaves = λ _. back ∙ ap (λ (r : RewriterMeaning). r .first) (kept ∙ was) ∙ sym (ap (ends-in ρ) sought ∙ none .1);
       too-large = λ big. absurd (big fin);
     }
