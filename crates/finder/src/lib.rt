@@ -1,4 +1,6 @@
 // The blame finder: which entry of the log explains which part of the pattern, and through which equalities.
+#![tactic(auto)]
+
 mod board;
 mod ended;
 mod equalities;

@@ -1,4 +1,6 @@
 // The host of a search: which nodes are live, which are the same, and the equalities made so far.
+#![tactic(auto)]
+
 mod allowed;
 mod classes;
 mod host;

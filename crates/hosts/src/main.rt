@@ -1,4 +1,6 @@
 // Hosts and rewriters over a small store: one line for each case.
+#![tactic(auto)]
+
 mod basic;
 mod classes;
 mod complex;

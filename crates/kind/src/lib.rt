@@ -1,4 +1,6 @@
 // The rewriters of a round, chosen by their kind.
+#![tactic(auto)]
+
 mod kind;
 mod rewriter;
 

@@ -1,4 +1,6 @@
 // The search from a term to a part of the pattern, what it means and what it achieves.
+#![tactic(auto)]
+
 ghost use Rattle.matcher.specs.Cases.{EightCases};
 
 mod exact;

@@ -1,4 +1,6 @@
 // A request: a store, a pattern with its bindings, and the logged entries; its parts and places, and its check.
+#![tactic(auto)]
+
 mod check;
 mod kinds;
 mod places;

@@ -1,4 +1,6 @@
 // The rewriters: what each offers at a query, when it is finished, and how it goes back.
+#![tactic(auto)]
+
 mod basic;
 mod complex;
 mod coupling;

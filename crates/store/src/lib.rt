@@ -1,4 +1,6 @@
 // Terms, nodes and symbols as tables, the rules that such tables keep, and the one fault type of the project.
+#![tactic(auto)]
+
 mod fault;
 mod fixed;
 mod rules;

@@ -52,7 +52,7 @@ impl<'a> Store<'a> {
         ensures { Decides result (name_of (tables self.entry) symbol ≡ Some (codes "if")) }
     {
         match self.name(symbol) {
-            Some(name) => name == b"if",
+            Some(name) => name == b"if".as_slice(),
             None => false,
         }
     }

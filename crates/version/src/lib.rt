@@ -1,4 +1,6 @@
 // The version of Z3 that wrote a log.
+#![tactic(auto)]
+
 ghost use Rattle.std.specs.Prelude.{◌≡◌};
 ghost use Rattle.version.specs.Order.{at_least, at_most};
 
