@@ -1,11 +1,10 @@
 -- The rules of a store.
 use Rattle.std.specs.Prelude.{◌≡◌, ℕ, ◌<◌, ◌≤◌, List, map, length, Some, Result, MatchResult}
-use Rattle.std.specs.List.{slice_get, AllByRecursion}
+use Rattle.std.specs.List.{AllByRecursion}
 use Rattle.store.specs.declared.fault.Fault.{Fault}
 use Rattle.store.specs.declared.fault.Refusal.TheVariants.{StoreBroken}
 use Rattle.store.specs.declared.fault.Culprit.TheVariants.{Nothing}
 use Rattle.store.specs.declared.term.Term.{Term}
-use Rattle.store.specs.declared.term.ENode.{ENode}
 use Rattle.store.specs.Refusals.{in_finder}
 use Rattle.store.specs.Spans.{Laid}
 use Rattle.store.specs.Terms.{follows, Listed, Childless}

@@ -4,8 +4,8 @@ use Rattle.explain.specs.Numerals.{Digit}
 use Rattle.explain.proofs.Values.{value_more, stops, whole}
 use Rattle.explain.proofs.number.parse_number.Goals as goal
 
-pub returns-in-default : goal.returns-in-default
-returns-in-default c = stops c.args.word.now c.loop-b.b-index c.loop-b.n (omega arith) c.loop-b.invariant.1 c.in-default.ensures
+pub returns-in_default : goal.returns-in_default
+returns-in_default c = stops c.args.word.now c.loop-b.b-index c.loop-b.n (omega arith) c.loop-b.invariant.1 c.in_default.ensures
 
 pub loop-b-preserved : goal.loop-b-preserved
 loop-b-preserved c =
@@ -21,4 +21,4 @@ loop-b-preserved c =
 pub returns : goal.returns
 returns c =
     let inv = c.loop-b.invariant in
-    whole c.args.word.now c.loop-b.b-index c.loop-b.n (omega arith) inv.0 inv.1 inv.2 (omega (arith, false-eqb (length c.args.word.now) 0 c.if-is-empty.ensures))
+    whole c.args.word.now c.loop-b.b-index c.loop-b.n (omega arith) inv.0 inv.1 inv.2 (omega (arith, false-eqb (length c.args.word.now) 0 c.if-is_empty.ensures))

@@ -5,4 +5,4 @@ use Rattle.explain.proofs.Offered.{tos_of}
 use Rattle.explain.proofs.offers.ask.Given as goal
 
 abbrev pub invariant-loop-idx : goal.invariant-loop-idx
-invariant-loop-idx g l = vec_items l.tos ≡ take l.idx (tos_of ((g.R.EqRewriter.rewriter l.rewriter (tables l.store)).ask l.mark (query (g.H.Host.meaning l.host (tables l.store)) [] l.term l.pattern-term)))
+invariant-loop-idx g l = vec_items l.tos ≡ take l.idx (tos_of ((g.R.EqRewriter.rewriter l.rewriter (tables l.store)).ask l.mark (query (g.H.Host.meaning l.host (tables l.store)) [] l.term l.pattern_term)))

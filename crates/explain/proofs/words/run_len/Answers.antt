@@ -7,4 +7,4 @@ use Rattle.explain.proofs.words.run_len.Goals as goal
 pub loop-i-preserved : goal.loop-i-preserved
 loop-i-preserved c =
     All-more {X = ℕ} (λ b. is_ascii_whitespace b ≡ c.args.white) c.args.bytes.now c.loop-i.i 0 (omega arith) c.loop-i.invariant
-    (sym c.is-ascii-whitespace.ensures.value ∙ no_difference c.is-ascii-whitespace.result c.args.white c.if-is-ascii-whitespace-white.false)
+    (sym c.is_ascii_whitespace.ensures.value ∙ no_difference c.is_ascii_whitespace.result c.args.white c.if-is_ascii_whitespace-white.false)

@@ -8,8 +8,8 @@ use Rattle.rewrite.proofs.ways.count_ways.Goals as goal
 pub loop-pair-preserved : goal.loop-pair-preserved
 loop-pair-preserved c =
     let left = left_long (tables c.args.store) c.args.term c.args.pairs.now c.loop-pair.pair-index (record { from = 0; to = 0 }) c.turned.result c.loop-pair-test.true c.turned.ensures in
-    let first = c.way-count-count.ensures in
-    let second = c.way-count-count-in-loop-pair.ensures in
+    let first = c.way_count-count.ensures in
+    let second = c.way_count-count-in-loop-pair.ensures in
     (omega (arith, left, c.loop-pair.invariant.0, first.count, second.count), omega (arith, c.loop-pair.invariant.1, first.few, second.few))
 
 pub returns : goal.returns

@@ -6,19 +6,19 @@ use Rattle.rewrite.specs.Kinds.{ways}
 use Rattle.rewrite.proofs.Numbering.{in_first, in_second, in_third}
 use Rattle.rewrite.proofs.ways.nth_way.Goals as goal
 
-pub returns-then-is-sought : goal.returns-then-is-sought
-returns-then-is-sought c =
-    sym (sym c.loop-pair.invariant ∙ in_first (tables c.args.store) c.args.term c.args.pairs.now c.loop-pair.pair-index (record { from = 0; to = 0 }) _ c.loop-pair-test.true refl c.loop-pair.left _ c.if-is-sought.ensures)
+pub returns-then-is_sought : goal.returns-then-is_sought
+returns-then-is_sought c =
+    sym (sym c.loop-pair.invariant ∙ in_first (tables c.args.store) c.args.term c.args.pairs.now c.loop-pair.pair-index (record { from = 0; to = 0 }) _ c.loop-pair-test.true refl c.loop-pair.left _ c.if-is_sought.ensures)
 
-pub returns-then-is-sought-2 : goal.returns-then-is-sought-2
-returns-then-is-sought-2 c =
-    let first = c.if-is-sought.ensures in
-    sym (sym c.loop-pair.invariant ∙ in_second (tables c.args.store) c.args.term c.args.pairs.now c.loop-pair.pair-index (record { from = 0; to = 0 }) c.turned-back.result c.loop-pair-test.true c.turned-back.ensures c.loop-pair.left _ _ first.0 first.1 c.if-is-sought-2.ensures)
+pub returns-then-is_sought-2 : goal.returns-then-is_sought-2
+returns-then-is_sought-2 c =
+    let first = c.if-is_sought.ensures in
+    sym (sym c.loop-pair.invariant ∙ in_second (tables c.args.store) c.args.term c.args.pairs.now c.loop-pair.pair-index (record { from = 0; to = 0 }) c.turned-back.result c.loop-pair-test.true c.turned-back.ensures c.loop-pair.left _ _ first.0 first.1 c.if-is_sought-2.ensures)
 
 pub loop-pair-preserved : goal.loop-pair-preserved
 loop-pair-preserved c =
-    let first = c.if-is-sought.ensures in
-    let second = c.if-is-sought-2.ensures in
+    let first = c.if-is_sought.ensures in
+    let second = c.if-is_sought-2.ensures in
     in_third (tables c.args.store) c.args.term c.args.pairs.now c.loop-pair.pair-index (record { from = 0; to = 0 }) c.turned-back.result c.loop-pair-test.true c.turned-back.ensures c.loop-pair.left _ _ first.0 first.1 second.0 second.1 ∙ c.loop-pair.invariant
 
 pub returns : goal.returns

@@ -1,4 +1,4 @@
-use Rattle.std.proofs.Common.{sym, ◌∙◌, arith}
+use Rattle.std.proofs.Common.{sym, ◌∙◌}
 use Rattle.std.proofs.lemmas.Bool.Decides.{not_from_Decides}
 use Rattle.store.proofs.Decided.{passed, refused}
 use Rattle.store.proofs.Laying.{begins, one_more, next_read, none_left, further_some, further_none}

@@ -10,5 +10,5 @@ returns c =
     let old = c.args.self.now in
     let inside : c.args.term < vec_len old.terms = omega (arith, c.if-term-len.false, c.len.ensures) in
     let found = slice_get_read (vec_items old.terms) (vec_len old.terms) c.args.term c.index-old.result.now old.terms.ok.0 inside c.index-old.ensures in
-    let with-terms : Option Term → Tables = λ o. record { terms = remarked (vec_items old.terms) c.args.term c.args.has-var o; nodes = (held old).nodes; cells = (held old).cells; symbols = (held old).symbols; names = (held old).names } in
+    let with-terms : Option Term → Tables = λ o. record { terms = remarked (vec_items old.terms) c.args.term c.args.has_var o; nodes = (held old).nodes; cells = (held old).cells; symbols = (held old).symbols; names = (held old).names } in
     (inside, ap with-terms (sym found))

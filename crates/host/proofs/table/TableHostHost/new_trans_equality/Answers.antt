@@ -11,29 +11,29 @@ use Rattle.host.specs.Tabled.{tabled}
 use Rattle.host.proofs.Making.{refused_ends, refused_permit, refused_full, made_new}
 use Rattle.host.proofs.table.TableHostHost.new_trans_equality.Goals as goal
 
-pub returns-then-not-are-ends : goal.returns-then-not-are-ends
-returns-then-not-are-ends g c = refused_ends _ _ _ _ _ (not_from_Decides _ c.are-ends.ensures c.if-not-are-ends.true) c.refused.ensures
+pub returns-then-not-are_ends : goal.returns-then-not-are_ends
+returns-then-not-are_ends g c = refused_ends _ _ _ _ _ (not_from_Decides _ c.are_ends.ensures c.if-not-are_ends.true) c.refused.ensures
 
-pub returns-in-err-permit : goal.returns-in-err-permit
-returns-in-err-permit g c =
+pub returns-in_err-permit : goal.returns-in_err-permit
+returns-in_err-permit g c =
     let p = err_from_is_err_and c.from-residual.result c.from-residual.ensures.1 in
-    refused_permit _ _ _ _ _ _ _ (c.are-ends.ensures.0 c.if-not-are-ends.false) c.in-err-permit.ensures p.1 p.2
+    refused_permit _ _ _ _ _ _ _ (c.are_ends.ensures.0 c.if-not-are_ends.false) c.in_err-permit.ensures p.1 p.2
 
 pub returns-in-Some : goal.returns-in-Some
-returns-in-Some g c = known (c.are-ends.ensures.0 c.if-not-are-ends.false) c.in-ok-permit.ensures (subst (λ l. slice_get l c.in-Some.k ≡ Some c.args.ends) c.as-slice.ensures c.in-Some.ensures)
+returns-in-Some g c = known (c.are_ends.ensures.0 c.if-not-are_ends.false) c.in_ok-permit.ensures (subst (λ l. slice_get l c.in-Some.k ≡ Some c.args.ends) c.as_slice.ensures c.in-Some.ensures)
 
 pub returns-then-not-push : goal.returns-then-not-push
 returns-then-not-push g c =
     let m = tabled g.P.Partition.joins (tables c.args.store) c.args.self.now in
     let stuck = c.if-not-push.ensures in
-    refused_full _ m _ _ _ _ (c.are-ends.ensures.0 c.if-not-are-ends.false) c.in-ok-permit.ensures
-    (λ k e. c.in-default.ensures k (ap (λ l. slice_get l k) c.as-slice.ensures ∙ e))
+    refused_full _ m _ _ _ _ (c.are_ends.ensures.0 c.if-not-are_ends.false) c.in_ok-permit.ensures
+    (λ k e. c.in_default.ensures k (ap (λ l. slice_get l k) c.as_slice.ensures ∙ e))
     (omega (arith, stuck.0)) c.refused-then-not-push.ensures (ap (λ l. with_listed m (held l)) stuck.1)
 
 pub returns : goal.returns
 returns g c =
     let m = tabled g.P.Partition.joins (tables c.args.store) c.args.self.now in
     let pushed = c.if-not-push.ensures in
-    made_new _ m _ _ _ _ (c.are-ends.ensures.0 c.if-not-are-ends.false) c.in-ok-permit.ensures
-    (λ k e. c.in-default.ensures k (ap (λ l. slice_get l k) c.as-slice.ensures ∙ e))
+    made_new _ m _ _ _ _ (c.are_ends.ensures.0 c.if-not-are_ends.false) c.in_ok-permit.ensures
+    (λ k e. c.in_default.ensures k (ap (λ l. slice_get l k) c.as_slice.ensures ∙ e))
     (omega (arith, held_few c.push.new.self, ap length pushed ∙ length_push (held c.args.self.now.made) c.args.ends)) c.count-k.ensures (ap (with_listed m) pushed)

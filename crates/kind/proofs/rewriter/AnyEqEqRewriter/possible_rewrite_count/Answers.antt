@@ -10,9 +10,9 @@ returns-in-Basic g c =
     let S = tables c.args.store in
     let is = sym c.in-Basic.is in
     record {
-      answer = c.possible-rewrite-count.ensures.answer ∙ ap (λ x. counted ((chosen x S).ask (chosen_state x) q)) is;
-      moves = c.possible-rewrite-count.ensures.moves ∙ ap (λ x. (chosen x S).next (chosen_state x) q) is;
-      same = c.possible-rewrite-count.ensures.same ∙ ap chosen is;
+      answer = c.possible_rewrite_count.ensures.answer ∙ ap (λ x. counted ((chosen x S).ask (chosen_state x) q)) is;
+      moves = c.possible_rewrite_count.ensures.moves ∙ ap (λ x. (chosen x S).next (chosen_state x) q) is;
+      same = c.possible_rewrite_count.ensures.same ∙ ap chosen is;
     }
 
 pub returns-in-Complex : goal.returns-in-Complex
@@ -21,9 +21,9 @@ returns-in-Complex g c =
     let S = tables c.args.store in
     let is = sym c.in-Complex.is in
     record {
-      answer = c.possible-rewrite-count-in-Complex.ensures.answer ∙ ap (λ x. counted ((chosen x S).ask (chosen_state x) q)) is;
-      moves = c.possible-rewrite-count-in-Complex.ensures.moves ∙ ap (λ x. (chosen x S).next (chosen_state x) q) is;
-      same = c.possible-rewrite-count-in-Complex.ensures.same ∙ ap chosen is;
+      answer = c.possible_rewrite_count-in-Complex.ensures.answer ∙ ap (λ x. counted ((chosen x S).ask (chosen_state x) q)) is;
+      moves = c.possible_rewrite_count-in-Complex.ensures.moves ∙ ap (λ x. (chosen x S).next (chosen_state x) q) is;
+      same = c.possible_rewrite_count-in-Complex.ensures.same ∙ ap chosen is;
     }
 
 pub returns-in-Custom : goal.returns-in-Custom
@@ -32,9 +32,9 @@ returns-in-Custom g c =
     let S = tables c.args.store in
     let is = sym c.in-Custom.is in
     record {
-      answer = c.possible-rewrite-count-in-Custom.ensures.answer ∙ ap (λ x. counted ((chosen x S).ask (chosen_state x) q)) is;
-      moves = c.possible-rewrite-count-in-Custom.ensures.moves ∙ ap (λ x. (chosen x S).next (chosen_state x) q) is;
-      same = c.possible-rewrite-count-in-Custom.ensures.same ∙ ap chosen is;
+      answer = c.possible_rewrite_count-in-Custom.ensures.answer ∙ ap (λ x. counted ((chosen x S).ask (chosen_state x) q)) is;
+      moves = c.possible_rewrite_count-in-Custom.ensures.moves ∙ ap (λ x. (chosen x S).next (chosen_state x) q) is;
+      same = c.possible_rewrite_count-in-Custom.ensures.same ∙ ap chosen is;
     }
 
 pub returns-in-Force : goal.returns-in-Force
@@ -43,7 +43,7 @@ returns-in-Force g c =
     let S = tables c.args.store in
     let is = sym c.in-Force.is in
     record {
-      answer = c.possible-rewrite-count-in-Force.ensures.answer ∙ ap (λ x. counted ((chosen x S).ask (chosen_state x) q)) is;
-      moves = c.possible-rewrite-count-in-Force.ensures.moves ∙ ap (λ x. (chosen x S).next (chosen_state x) q) is;
-      same = c.possible-rewrite-count-in-Force.ensures.same ∙ ap chosen is;
+      answer = c.possible_rewrite_count-in-Force.ensures.answer ∙ ap (λ x. counted ((chosen x S).ask (chosen_state x) q)) is;
+      moves = c.possible_rewrite_count-in-Force.ensures.moves ∙ ap (λ x. (chosen x S).next (chosen_state x) q) is;
+      same = c.possible_rewrite_count-in-Force.ensures.same ∙ ap chosen is;
     }

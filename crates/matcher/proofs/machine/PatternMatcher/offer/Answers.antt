@@ -11,8 +11,8 @@ returns-then-tried-count g c = record {
   same = refl;
 }
 
-pub take-offer-requires : goal.take-offer-requires
-take-offer-requires g c = record {
+pub take_offer-requires : goal.take_offer-requires
+take_offer-requires g c = record {
   levels = levels_room (asked c.args.request) _ _ c.args.self.now c.args.level c.requires.sound;
   pairs = subst (λ n. n < 64) (ap length (sym c.truncate.ensures)) (pairs_room (asked c.args.request) _ _ c.args.self.now c.args.level c.requires.sound);
 }
@@ -23,7 +23,7 @@ returns g c =
     let m = g.H.Host.meaning c.args.host.now S in
     let q = query m c.args.aside.now c.args.level.blame c.args.level.subpat in
     record {
-      steps = take_turn (asked c.args.request) _ _ c.args.self.now c.args.level c.requires.sound _ _ _ c.requires.phase _ c.take-offer.new.self (g.R.EqRewriter.state c.args.rewriter.now) _ c.possible-rewrite-to.result c.if-tried-count.false (c.back.ensures.goes S) refl c.truncate.ensures
-          (c.possible-rewrite-to.ensures ∙ ap (λ r. offer_at ((r S).ask c.args.level.before q) c.args.tried) c.back.ensures.same) c.take-offer.ensures;
+      steps = take_turn (asked c.args.request) _ _ c.args.self.now c.args.level c.requires.sound _ _ _ c.requires.phase _ c.take_offer.new.self (g.R.EqRewriter.state c.args.rewriter.now) _ c.possible_rewrite-to.result c.if-tried-count.false (c.back.ensures.goes S) refl c.truncate.ensures
+          (c.possible_rewrite-to.ensures ∙ ap (λ r. offer_at ((r S).ask c.args.level.before q) c.args.tried) c.back.ensures.same) c.take_offer.ensures;
       same = c.back.ensures.same;
     }

@@ -7,14 +7,14 @@ use Rattle.matcher.proofs.Advancing.{advance_turn}
 use Rattle.matcher.proofs.Missing.{levels_room, off_stacked, off_here, off_turn, only_miss}
 use Rattle.matcher.proofs.machine.PatternMatcher.turn.Goals as goal
 
-pub on-hit-requires : goal.on-hit-requires
-on-hit-requires g c =
+pub on_hit-requires : goal.on_hit-requires
+on_hit-requires g c =
     let M = c.args.self.now in
     let N : PatternMatcher = record { levels = c.pop.new.self; pairs = M.pairs; mode = M.mode } in
     levels_room (asked c.args.request) _ _ N c.in-Some.level (off_stacked _ _ _ M N c.in-Some.level Hit _ c.in-Hit.is c.in-Some.ensures refl c.requires)
 
-pub on-miss-requires : goal.on-miss-requires
-on-miss-requires g c =
+pub on_miss-requires : goal.on_miss-requires
+on_miss-requires g c =
     let M = c.args.self.now in
     let N : PatternMatcher = record { levels = c.pop.new.self; pairs = M.pairs; mode = M.mode } in
     off_stacked _ _ _ M N c.in-Some.level M.mode _ refl c.in-Some.ensures refl c.requires
@@ -26,16 +26,16 @@ returns-in-Hit g c =
     let l = c.in-Some.level in
     let popped = c.in-Some.ensures in
     record {
-      turned = off_turn _ _ _ M N l Hit _ c.in-Hit.is popped refl c.on-hit.new.self _
-          (advance_turn (asked c.args.request) _ _ N c.on-hit.new.self l _ _ _ (off_stacked _ _ _ M N l Hit _ c.in-Hit.is popped refl c.requires) (off_here _ _ _ M N l Hit _ c.in-Hit.is popped refl c.requires) refl refl c.on-hit.ensures);
+      turned = off_turn _ _ _ M N l Hit _ c.in-Hit.is popped refl c.on_hit.new.self _
+          (advance_turn (asked c.args.request) _ _ N c.on_hit.new.self l _ _ _ (off_stacked _ _ _ M N l Hit _ c.in-Hit.is popped refl c.requires) (off_here _ _ _ M N l Hit _ c.in-Hit.is popped refl c.requires) refl refl c.on_hit.ensures);
       same = refl;
     }
 
-pub returns-in-default-mode : goal.returns-in-default-mode
-returns-in-default-mode g c =
+pub returns-in_default-mode : goal.returns-in_default-mode
+returns-in_default-mode g c =
     let M = c.args.self.now in
     let N : PatternMatcher = record { levels = c.pop.new.self; pairs = M.pairs; mode = M.mode } in
     record {
-      turned = off_turn _ _ _ M N c.in-Some.level Miss _ (only_miss M.mode c.in-default.not-Down c.in-default-mode.not-Hit) c.in-Some.ensures refl c.on-miss.new.self _ c.on-miss.ensures.steps;
-      same = c.on-miss.ensures.same;
+      turned = off_turn _ _ _ M N c.in-Some.level Miss _ (only_miss M.mode c.in_default.not-Down c.in_default-mode.not-Hit) c.in-Some.ensures refl c.on_miss.new.self _ c.on_miss.ensures.steps;
+      same = c.on_miss.ensures.same;
     }

@@ -8,54 +8,54 @@ use Rattle.request.proofs.Faults.{alone, clear, broke, settled}
 use Rattle.request.proofs.Keeping.{admitted_keeps}
 use Rattle.request.proofs.request.Request.check.Goals as goal
 
-pub returns-in-err-check : goal.returns-in-err-check
-returns-in-err-check c =
+pub returns-in_err-check : goal.returns-in_err-check
+returns-in_err-check c =
     let R = asked c.args.self in
     let p = err_from_is_err_and c.from-residual.result c.from-residual.ensures.1 in
-    record { answer = broke R StoreBroken _ _ _ p.1 p.2 (subst (Faulted R StoreBroken) (sym c.in-err-check.ensures.1) (alone R StoreBroken names_nothing (store_broken c.in-err-check.ensures.0))) (clear R 1 (omega arith) (inl (omega arith)) (inl (omega arith)) (inl (omega arith)) (inl (omega arith)) (inl (omega arith))); laws = admitted_keeps }
+    record { answer = broke R StoreBroken _ _ _ p.1 p.2 (subst (Faulted R StoreBroken) (sym c.in_err-check.ensures.1) (alone R StoreBroken names_nothing (store_broken c.in_err-check.ensures.0))) (clear R 1 (omega arith) (inl (omega arith)) (inl (omega arith)) (inl (omega arith)) (inl (omega arith)) (inl (omega arith))); laws = admitted_keeps }
 
-pub returns-in-err-check-pattern : goal.returns-in-err-check-pattern
-returns-in-err-check-pattern c =
+pub returns-in_err-check_pattern : goal.returns-in_err-check_pattern
+returns-in_err-check_pattern c =
     let R = asked c.args.self in
-    let p = err_from_is_err_and c.from-residual-in-err-check-pattern.result c.from-residual-in-err-check-pattern.ensures.1 in
-    record { answer = broke R BadPattern _ _ _ p.1 p.2 c.in-err-check-pattern.ensures (clear R 2 (omega arith) (inr c.in-ok-check.ensures) (inl (omega arith)) (inl (omega arith)) (inl (omega arith)) (inl (omega arith))); laws = admitted_keeps }
+    let p = err_from_is_err_and c.from-residual-in_err-check_pattern.result c.from-residual-in_err-check_pattern.ensures.1 in
+    record { answer = broke R BadPattern _ _ _ p.1 p.2 c.in_err-check_pattern.ensures (clear R 2 (omega arith) (inr c.in_ok-check.ensures) (inl (omega arith)) (inl (omega arith)) (inl (omega arith)) (inl (omega arith))); laws = admitted_keeps }
 
-pub returns-in-err-check-parts : goal.returns-in-err-check-parts
-returns-in-err-check-parts c =
+pub returns-in_err-check_parts : goal.returns-in_err-check_parts
+returns-in_err-check_parts c =
     let R = asked c.args.self in
-    let p = err_from_is_err_and c.from-residual-in-err-check-parts.result c.from-residual-in-err-check-parts.ensures.1 in
-    record { answer = broke R BadPart _ _ _ p.1 p.2 c.in-err-check-parts.ensures (clear R 3 (omega arith) (inr c.in-ok-check.ensures) (inr c.in-ok-check-pattern.ensures) (inl (omega arith)) (inl (omega arith)) (inl (omega arith))); laws = admitted_keeps }
+    let p = err_from_is_err_and c.from-residual-in_err-check_parts.result c.from-residual-in_err-check_parts.ensures.1 in
+    record { answer = broke R BadPart _ _ _ p.1 p.2 c.in_err-check_parts.ensures (clear R 3 (omega arith) (inr c.in_ok-check.ensures) (inr c.in_ok-check_pattern.ensures) (inl (omega arith)) (inl (omega arith)) (inl (omega arith))); laws = admitted_keeps }
 
-pub returns-in-err-check-bindings : goal.returns-in-err-check-bindings
-returns-in-err-check-bindings c =
+pub returns-in_err-check_bindings : goal.returns-in_err-check_bindings
+returns-in_err-check_bindings c =
     let R = asked c.args.self in
-    let p = err_from_is_err_and c.from-residual-in-err-check-bindings.result c.from-residual-in-err-check-bindings.ensures.1 in
-    record { answer = broke R BadBindings _ _ _ p.1 p.2 c.in-err-check-bindings.ensures (clear R 4 (omega arith) (inr c.in-ok-check.ensures) (inr c.in-ok-check-pattern.ensures) (inr c.in-ok-check-parts.ensures) (inl (omega arith)) (inl (omega arith))); laws = admitted_keeps }
+    let p = err_from_is_err_and c.from-residual-in_err-check_bindings.result c.from-residual-in_err-check_bindings.ensures.1 in
+    record { answer = broke R BadBindings _ _ _ p.1 p.2 c.in_err-check_bindings.ensures (clear R 4 (omega arith) (inr c.in_ok-check.ensures) (inr c.in_ok-check_pattern.ensures) (inr c.in_ok-check_parts.ensures) (inl (omega arith)) (inl (omega arith))); laws = admitted_keeps }
 
-pub returns-in-err-check-entry-count : goal.returns-in-err-check-entry-count
-returns-in-err-check-entry-count c =
+pub returns-in_err-check_entry_count : goal.returns-in_err-check_entry_count
+returns-in_err-check_entry_count c =
     let R = asked c.args.self in
-    let p = err_from_is_err_and c.from-residual-in-err-check-entry-count.result c.from-residual-in-err-check-entry-count.ensures.1 in
-    record { answer = broke R BadEntryCount _ _ _ p.1 p.2 c.in-err-check-entry-count.ensures (clear R 5 (omega arith) (inr c.in-ok-check.ensures) (inr c.in-ok-check-pattern.ensures) (inr c.in-ok-check-parts.ensures) (inr c.in-ok-check-bindings.ensures) (inl (omega arith))); laws = admitted_keeps }
+    let p = err_from_is_err_and c.from-residual-in_err-check_entry_count.result c.from-residual-in_err-check_entry_count.ensures.1 in
+    record { answer = broke R BadEntryCount _ _ _ p.1 p.2 c.in_err-check_entry_count.ensures (clear R 5 (omega arith) (inr c.in_ok-check.ensures) (inr c.in_ok-check_pattern.ensures) (inr c.in_ok-check_parts.ensures) (inr c.in_ok-check_bindings.ensures) (inl (omega arith))); laws = admitted_keeps }
 
-pub returns-in-err-check-entries : goal.returns-in-err-check-entries
-returns-in-err-check-entries c =
+pub returns-in_err-check_entries : goal.returns-in_err-check_entries
+returns-in_err-check_entries c =
     let R = asked c.args.self in
-    let p = err_from_is_err_and c.from-residual-in-err-check-entries.result c.from-residual-in-err-check-entries.ensures.1 in
-    record { answer = broke R BadEntry _ _ _ p.1 p.2 c.in-err-check-entries.ensures (clear R 6 (omega arith) (inr c.in-ok-check.ensures) (inr c.in-ok-check-pattern.ensures) (inr c.in-ok-check-parts.ensures) (inr c.in-ok-check-bindings.ensures) (inr c.in-ok-check-entry-count.ensures)); laws = admitted_keeps }
+    let p = err_from_is_err_and c.from-residual-in_err-check_entries.result c.from-residual-in_err-check_entries.ensures.1 in
+    record { answer = broke R BadEntry _ _ _ p.1 p.2 c.in_err-check_entries.ensures (clear R 6 (omega arith) (inr c.in_ok-check.ensures) (inr c.in_ok-check_pattern.ensures) (inr c.in_ok-check_parts.ensures) (inr c.in_ok-check_bindings.ensures) (inr c.in_ok-check_entry_count.ensures)); laws = admitted_keeps }
 
 pub returns : goal.returns
 returns c =
     let R = asked c.args.self in
     record {
       answer = settled R _ (λ pairs. record {
-        store = c.in-ok-check.ensures;
-        pattern = c.in-ok-check-pattern.ensures;
-        parts = c.in-ok-check-parts.ensures;
-        bindings = c.in-ok-check-bindings.ensures;
-        count = c.in-ok-check-entry-count.ensures;
-        entries = c.in-ok-check-entries.ensures;
+        store = c.in_ok-check.ensures;
+        pattern = c.in_ok-check_pattern.ensures;
+        parts = c.in_ok-check_parts.ensures;
+        bindings = c.in_ok-check_bindings.ensures;
+        count = c.in_ok-check_entry_count.ensures;
+        entries = c.in_ok-check_entries.ensures;
         pairs = pairs;
-      }) (clear R 6 (omega arith) (inr c.in-ok-check.ensures) (inr c.in-ok-check-pattern.ensures) (inr c.in-ok-check-parts.ensures) (inr c.in-ok-check-bindings.ensures) (inr c.in-ok-check-entry-count.ensures)) c.check-pairs.ensures;
+      }) (clear R 6 (omega arith) (inr c.in_ok-check.ensures) (inr c.in_ok-check_pattern.ensures) (inr c.in_ok-check_parts.ensures) (inr c.in_ok-check_bindings.ensures) (inr c.in_ok-check_entry_count.ensures)) c.check_pairs.ensures;
       laws = admitted_keeps;
     }

@@ -11,11 +11,11 @@ use Rattle.request.proofs.request.Request.check_entries.Goals as goal
 pub loop-j-init : goal.loop-j-init
 loop-j-init c = below_none (λ _ e. EntryRules (asked c.args.self) e) _
 
-pub returns-then-not-is-good-entry : goal.returns-then-not-is-good-entry
-returns-then-not-is-good-entry c = subst (Faulted (asked c.args.self) BadEntry) (sym c.finder.ensures) (at_entry _ _ _ c.loop-j.invariant (slice_get-get_or _ _ _ c.loop-j-test.true) (not_from_Decides _ c.is-good-entry.ensures c.if-not-is-good-entry.true))
+pub returns-then-not-is_good_entry : goal.returns-then-not-is_good_entry
+returns-then-not-is_good_entry c = subst (Faulted (asked c.args.self) BadEntry) (sym c.finder.ensures) (at_entry _ _ _ c.loop-j.invariant (slice_get-get_or _ _ _ c.loop-j-test.true) (not_from_Decides _ c.is_good_entry.ensures c.if-not-is_good_entry.true))
 
 pub loop-j-preserved : goal.loop-j-preserved
-loop-j-preserved c = below_next (λ _ e. EntryRules (asked c.args.self) e) _ _ _ (slice_get-get_or _ _ _ c.loop-j-test.true) (c.is-good-entry.ensures.0 c.if-not-is-good-entry.false) c.loop-j.invariant
+loop-j-preserved c = below_next (λ _ e. EntryRules (asked c.args.self) e) _ _ _ (slice_get-get_or _ _ _ c.loop-j-test.true) (c.is_good_entry.ensures.0 c.if-not-is_good_entry.false) c.loop-j.invariant
 
 pub returns : goal.returns
 returns c = below_all (λ _ e. EntryRules (asked c.args.self) e) _ _ c.loop-j-test.false c.loop-j.invariant

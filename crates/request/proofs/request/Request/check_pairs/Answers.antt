@@ -11,11 +11,11 @@ use Rattle.request.proofs.request.Request.check_pairs.Goals as goal
 pub loop-k-init : goal.loop-k-init
 loop-k-init c = below_none (PairRules (asked c.args.self)) _
 
-pub returns-then-not-is-good-pair : goal.returns-then-not-is-good-pair
-returns-then-not-is-good-pair c = subst (Faulted (asked c.args.self) BadEntry) (sym c.finder.ensures) (at_pair _ _ _ c.requires c.loop-k.invariant (slice_get-get_or _ _ _ c.loop-k-test.true) (not_from_Decides _ c.is-good-pair.ensures c.if-not-is-good-pair.true))
+pub returns-then-not-is_good_pair : goal.returns-then-not-is_good_pair
+returns-then-not-is_good_pair c = subst (Faulted (asked c.args.self) BadEntry) (sym c.finder.ensures) (at_pair _ _ _ c.requires c.loop-k.invariant (slice_get-get_or _ _ _ c.loop-k-test.true) (not_from_Decides _ c.is_good_pair.ensures c.if-not-is_good_pair.true))
 
 pub loop-k-preserved : goal.loop-k-preserved
-loop-k-preserved c = below_next (PairRules (asked c.args.self)) _ _ _ (slice_get-get_or _ _ _ c.loop-k-test.true) (c.is-good-pair.ensures.0 c.if-not-is-good-pair.false) c.loop-k.invariant
+loop-k-preserved c = below_next (PairRules (asked c.args.self)) _ _ _ (slice_get-get_or _ _ _ c.loop-k-test.true) (c.is_good_pair.ensures.0 c.if-not-is_good_pair.false) c.loop-k.invariant
 
 pub returns : goal.returns
 returns c = below_all (PairRules (asked c.args.self)) _ _ c.loop-k-test.false c.loop-k.invariant

@@ -7,11 +7,11 @@ use Rattle.request.specs.Grounds.{bad_pattern, Faulted, PatternRules}
 use Rattle.request.proofs.Faults.{alone}
 use Rattle.request.proofs.request.Request.check_pattern.Goals as goal
 
-pub returns-in-default : goal.returns-in-default
-returns-in-default c = subst (Faulted (asked c.args.self) BadPattern) (sym c.finder-fault.ensures) (alone _ BadPattern names_nothing (bad_pattern (λ r. some_not_none _ r.term c.in-default.ensures r.there)))
+pub returns-in_default : goal.returns-in_default
+returns-in_default c = subst (Faulted (asked c.args.self) BadPattern) (sym c.finder-fault.ensures) (alone _ BadPattern names_nothing (bad_pattern (λ r. some_not_none _ r.term c.in_default.ensures r.there)))
 
-pub returns-in-default-kind : goal.returns-in-default-kind
-returns-in-default-kind c = subst (Faulted (asked c.args.self) BadPattern) (sym c.finder-fault.ensures) (alone _ BadPattern names_nothing (bad_pattern (λ r. c.in-default-kind.not-App r.symbol (ap (λ x. x.kind) (same_some _ _ _ (sym c.in-Some.ensures) r.there) ∙ r.applies))))
+pub returns-in_default-kind : goal.returns-in_default-kind
+returns-in_default-kind c = subst (Faulted (asked c.args.self) BadPattern) (sym c.finder-fault.ensures) (alone _ BadPattern names_nothing (bad_pattern (λ r. c.in_default-kind.not-App r.symbol (ap (λ x. x.kind) (same_some _ _ _ (sym c.in-Some.ensures) r.there) ∙ r.applies))))
 
 pub returns-then-count-lt1 : goal.returns-then-count-lt1
 returns-then-count-lt1 c = subst (Faulted (asked c.args.self) BadPattern) (sym c.finder-fault.ensures) (alone _ BadPattern names_nothing (bad_pattern (λ r. let long = ap length c.parts-count.ensures in ⊎_elim (λ few. omega (arith, r.some)) (λ many. omega (arith, r.few)) c.then-count-lt1.either)))

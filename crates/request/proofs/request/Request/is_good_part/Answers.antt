@@ -7,7 +7,7 @@ use Rattle.request.proofs.Quantifiers.{quantified_unknown, unknown_quantified}
 use Rattle.request.proofs.request.Request.is_good_part.Goals as goal
 
 pub returns-then-eq : goal.returns-then-eq
-returns-then-eq c = refused _ (λ r. r.plain (unknown_quantified _ c.requires.ruled _ c.requires.there (sym c.has-var.ensures ∙ c.if-eq.ensures)))
+returns-then-eq c = refused _ (λ r. r.plain (unknown_quantified _ c.requires.ruled _ c.requires.there (sym c.has_var.ensures ∙ c.if-eq.ensures)))
 
 pub returns : goal.returns
-returns c = subst (λ b. Decides b (PartRules (tables c.args.self.store) c.args.part)) (sym c.is-some.ensures) (part_decided _ _ _ (λ q. c.if-eq.ensures (c.has-var.ensures ∙ quantified_unknown _ c.requires.ruled q)) c.places.ensures)
+returns c = subst (λ b. Decides b (PartRules (tables c.args.self.store) c.args.part)) (sym c.is_some.ensures) (part_decided _ _ _ (λ q. c.if-eq.ensures (c.has_var.ensures ∙ quantified_unknown _ c.requires.ruled q)) c.places.ensures)

@@ -10,7 +10,7 @@ returns-then-idx-first c =
     let S = tables c.args.store in
     let own = ways S c.args.self.own.now c.args.term in
     let booked = ways S c.args.self.booked.now c.args.term in
-    c.nth-way.ensures ∙ sym (nth_left own booked c.args.idx (omega (arith, c.count-ways-first.ensures.count)))
+    c.nth_way.ensures ∙ sym (nth_left own booked c.args.idx (omega (arith, c.count_ways-first.ensures.count)))
     ∙ ap (λ l. slice_get l c.args.idx) (sym (ways_append S c.args.term c.args.self.own.now c.args.self.booked.now))
 
 pub returns : goal.returns
@@ -18,6 +18,6 @@ returns c =
     let S = tables c.args.store in
     let own = ways S c.args.self.own.now c.args.term in
     let booked = ways S c.args.self.booked.now c.args.term in
-    c.nth-way-2.ensures ∙ ap (λ n. slice_get booked (c.args.idx - n)) c.count-ways-first.ensures.count
-    ∙ sym (nth_skip own booked c.args.idx (omega (arith, c.count-ways-first.ensures.count)))
+    c.nth_way-2.ensures ∙ ap (λ n. slice_get booked (c.args.idx - n)) c.count_ways-first.ensures.count
+    ∙ sym (nth_skip own booked c.args.idx (omega (arith, c.count_ways-first.ensures.count)))
     ∙ ap (λ l. slice_get l c.args.idx) (sym (ways_append S c.args.term c.args.self.own.now c.args.self.booked.now))

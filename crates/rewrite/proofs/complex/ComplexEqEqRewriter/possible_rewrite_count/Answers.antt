@@ -11,9 +11,9 @@ returns g c =
     let booked = c.args.self.now.booked.now in
     let b = c.args.blame in
     let long = ap length (ways_append S b own booked) ∙ length-append (ways S own b) (ways S booked b) in
-    let sum : c.count-ways.result + c.count-ways-2.result ≡ length (ways S (own ++ booked) b) = omega (arith, c.count-ways.ensures.count, c.count-ways-2.ensures.count) in
+    let sum : c.count_ways.result + c.count_ways-2.result ≡ length (ways S (own ++ booked) b) = omega (arith, c.count_ways.ensures.count, c.count_ways-2.ensures.count) in
     record {
-      answer = ap (λ n. Some (record { from = c.in-ok-near.near.from; count = n })) sum ∙ sym (far_some (ways S (own ++ booked) b) c.in-ok-near.near (sym c.in-ok-near.ensures));
+      answer = ap (λ n. Some (record { from = c.in_ok-near.near.from; count = n })) sum ∙ sym (far_some (ways S (own ++ booked) b) c.in_ok-near.near (sym c.in_ok-near.ensures));
       moves = refl;
       same = refl;
     }

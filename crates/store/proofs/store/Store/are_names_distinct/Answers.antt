@@ -7,7 +7,7 @@ pub loop-j-init : goal.loop-j-init
 loop-j-init c = λ k h. absurd (omega arith)
 
 pub loop-j-preserved : goal.loop-j-preserved
-loop-j-preserved c = below_more _ _ c.loop-j.invariant (not_from_Decides _ c.is-named-before.ensures c.if-is-named-before.false)
+loop-j-preserved c = below_more _ _ c.loop-j.invariant (not_from_Decides _ c.is_named_before.ensures c.if-is_named_before.false)
 
 pub returns : goal.returns
 returns c = passed _ (λ j h. c.loop-j.invariant j (omega (arith, h, c.loop-j-test.false)))

@@ -1,11 +1,9 @@
 use Rattle.std.proofs.Common.{◌≡◌, Some, sym, ap, ◌∙◌, arith, below_more}
 use Rattle.std.proofs.lemmas.Slice.Eq.{slice_eq-Decides}
 use Rattle.std.proofs.lemmas.Bool.Decides.{not_from_Decides, Decides-eqb}
-use Rattle.store.specs.Rules.{NamedBefore}
-use Rattle.store.specs.Tables.{tables, name_of}
 use Rattle.store.proofs.Decided.{some_not_none, passed, refused}
 use Rattle.store.proofs.store.Store.is_named_before.Goals as goal
-use Rattle.store.proofs.store.Store.is_named_before.Goals.{in-Some-name+else-eq, in-default-name}
+use Rattle.store.proofs.store.Store.is_named_before.Goals.{in-Some-name+else-eq, in_default-name}
 
 pub loop-i-init : goal.loop-i-init
 loop-i-init c = λ k h. absurd (omega arith)
@@ -22,7 +20,7 @@ returns-then-eq c = passed _ (record {
 pub loop-i-preserved : goal.loop-i-preserved
 loop-i-preserved c = below_more _ _ c.loop-i.invariant (elim c.match-name-2.branch [
   | in-Some-name+else-eq w ↦ λ e. not_from_Decides _ (slice_eq-Decides Decides-eqb _ _ _ w.eq.ensures) w.if-eq.false (let both : w.in-Some-name.other.now ≡ c.in-Some.name.now = cc (w.in-Some-name.ensures, e) in both)
-  | in-default-name w ↦ λ e. some_not_none _ _ w.in-default-name.ensures e
+  | in_default-name w ↦ λ e. some_not_none _ _ w.in_default-name.ensures e
 ])
 
 pub returns : goal.returns

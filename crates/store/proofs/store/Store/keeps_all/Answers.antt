@@ -1,27 +1,25 @@
-use Rattle.std.proofs.Common.{sym, subst}
 use Rattle.std.proofs.lemmas.List.{map-id}
 use Rattle.std.proofs.lemmas.Bool.Decides.{not_from_Decides}
-use Rattle.store.specs.Spans.{Laid}
 use Rattle.store.proofs.Decided.{refused}
 use Rattle.store.proofs.store.Store.keeps_all.Goals as goal
 
-pub returns-then-not-are-laid-2 : goal.returns-then-not-are-laid-2
-returns-then-not-are-laid-2 c = refused _ (λ r. not_from_Decides _ c.are-laid-2.ensures c.if-not-are-laid-2.true (rw map-id r.names_laid))
+pub returns-then-not-are_laid-2 : goal.returns-then-not-are_laid-2
+returns-then-not-are_laid-2 c = refused _ (λ r. not_from_Decides _ c.are_laid-2.ensures c.if-not-are_laid-2.true (rw map-id r.names_laid))
 
 pub returns : goal.returns
 returns c =
-    let few = c.is-small.ensures.0 c.if-not-is-small.false in (
+    let few = c.is_small.ensures.0 c.if-not-is_small.false in (
       λ e. record {
         few_terms = few.0;
         few_nodes = few.1;
         few_cells = few.2;
         few_symbols = few.3;
         few_name_bytes = few.4;
-        children_laid = c.are-laid.ensures.0 c.if-not-are-laid.false;
-        names_laid = rw map-id at (c.are-laid-2.ensures.0 c.if-not-are-laid-2.false);
-        names_distinct = c.are-names-distinct.ensures.0 c.if-not-are-names-distinct.false;
-        terms_ruled = c.are-terms-ruled.ensures.0 c.if-not-are-terms-ruled.false;
-        owners_listed = c.are-owners-listed.ensures.0 e;
+        children_laid = c.are_laid.ensures.0 c.if-not-are_laid.false;
+        names_laid = rw map-id at (c.are_laid-2.ensures.0 c.if-not-are_laid-2.false);
+        names_distinct = c.are_names_distinct.ensures.0 c.if-not-are_names_distinct.false;
+        terms_ruled = c.are_terms_ruled.ensures.0 c.if-not-are_terms_ruled.false;
+        owners_listed = c.are_owners_listed.ensures.0 e;
       },
-      λ r. c.are-owners-listed.ensures.1 r.owners_listed,
+      λ r. c.are_owners_listed.ensures.1 r.owners_listed,
     )
