@@ -1,5 +1,5 @@
 -- The first ground that holds, at the first culprit.
-use Rattle.std.proofs.Common.{◌≡◌, ℕ, ◌<◌, ◌≤◌, ◌⊎◌, Some, Ok, Err, Result, sym, refl, ap, ◌∙◌, subst, ⊎_elim, arith, MatchResult}
+use Rattle.std.proofs.Common.{◌≡◌, ℕ, ◌≤◌, ◌⊎◌, Some, Ok, Err, Result, sym, refl, ap, ◌∙◌, subst, ⊎_elim, arith, MatchResult}
 use Rattle.std.specs.List.{slice_get}
 use Rattle.store.specs.declared.fault.Culprit.{Culprit}
 use Rattle.store.specs.declared.fault.Culprit.TheVariants.{Nothing, Part, Entry, TablePair}

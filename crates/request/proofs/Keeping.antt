@@ -1,11 +1,11 @@
 -- What an admitted request gives to those that read it.
-use Rattle.std.proofs.Common.{◌≡◌, ℕ, ◌+◌, ◌<◌, ◌≤◌, true, leb, List, [], ◌∷◌, length, take, drop, Some, None, Option, sym, refl, ap, ◌∙◌, subst, arith, length-drop, length-take}
+use Rattle.std.proofs.Common.{◌≡◌, ℕ, ◌+◌, ◌<◌, length, take, drop, Some, None, Option, refl, ap, ◌∙◌, subst, arith, length-take}
 use Rattle.std.specs.List.{slice_get}
 use Rattle.std.proofs.lemmas.Bool.{le-leb, cond-true}
 use Rattle.store.specs.declared.term.ENode.{ENode}
-use Rattle.store.specs.Tables.{Tables, owner_of, owner_in}
+use Rattle.store.specs.Tables.{Tables, owner_in}
 use Rattle.store.proofs.Decided.{some_not_none, same_some, nth_there, all_nth}
-use Rattle.request.specs.Asked.{Asked, parts, part_at, term_of, pairs_in}
+use Rattle.request.specs.Asked.{Asked, parts, term_of, pairs_in}
 use Rattle.request.specs.Grounds.{Admitted}
 use Rattle.request.specs.Laws.{PartLaw, EntryLaw, AdmittedKeeps}
 use Rattle.request.proofs.Parts.{part_there}

@@ -1,5 +1,5 @@
 -- What a list of a part's places decides.
-use Rattle.std.proofs.Common.{◌≡◌, ℕ, ◌<◌, ◌≤◌, Bool, true, List, [], length, is_some, Some, None, Decides, Option, unwrap_or, sym, refl, subst, arith, MatchOption}
+use Rattle.std.proofs.Common.{◌≡◌, ℕ, ◌<◌, ◌≤◌, Bool, List, [], length, is_some, Some, None, Decides, Option, unwrap_or, refl, subst, arith, MatchOption}
 use Rattle.std.specs.List.{slice_get, AllByRecursion}
 use Rattle.store.specs.declared.term.Term.{Term}
 use Rattle.store.specs.Rules.{StoreRules}

@@ -1,16 +1,16 @@
 -- In a store that keeps its rules, a term is recorded as unknown exactly if it holds a quantifier.
-use Rattle.std.proofs.Common.{◌≡◌, ℕ, zero, suc, ◌+◌, ◌<◌, ◌≤◌, Bool, true, false, cond, ◌||◌, leb, List, [], ◌∷◌, map, length, get_or, take, drop, Some, None, Option, unwrap_or, sym, refl, ap, ◌∙◌, subst, ⊎_elim, arith}
-use Rattle.std.specs.List.{slice_get, ContainsAt, AllByRecursion}
+use Rattle.std.proofs.Common.{◌≡◌, ℕ, zero, suc, ◌+◌, ◌<◌, Bool, true, false, cond, leb, List, [], ◌∷◌, map, length, get_or, take, drop, Some, None, unwrap_or, sym, refl, ap, ◌∙◌, ⊎_elim, arith}
+use Rattle.std.specs.List.{ContainsAt}
 use Rattle.std.proofs.ByRecursion.{all-has}
-use Rattle.std.proofs.lemmas.Bool.{or_cases, or_left, or_right, cases_Bool, true≢false}
+use Rattle.std.proofs.lemmas.Bool.{or_cases, or_left, or_right, true≢false}
 use Rattle.store.specs.declared.term.HasVar.{HasVar}
 use Rattle.store.specs.declared.term.HasVar.TheVariants.{No, Yes, Unknown}
 use Rattle.store.specs.declared.term.Term.{Term}
 use Rattle.store.specs.declared.term.TermKind.{TermKind}
 use Rattle.store.specs.declared.term.TermKind.TheVariants.{Var, App, Quant}
-use Rattle.store.specs.Rules.{StoreRules, TermRules}
+use Rattle.store.specs.Rules.{StoreRules}
 use Rattle.store.specs.Tables.{Tables, term_at, kids, recorded, recorded_in}
-use Rattle.store.specs.Terms.{some, is_unknown, is_yes, of_children, follows, Childless}
+use Rattle.store.specs.Terms.{some, is_unknown, is_yes, follows, Childless}
 use Rattle.store.proofs.Decided.{nth_there}
 use Rattle.request.specs.Grounds.{Quantified, itself, below}
 

@@ -2,11 +2,8 @@
 use Rattle.std.specs.Prelude.{◌≡◌, ℕ, List, [], Some, None, Option}
 use Rattle.std.specs.List.{slice_get}
 use Rattle.std.specs.Option.{unwrap_or}
-use Rattle.store.specs.declared.term.Term.{Term}
-use Rattle.store.specs.declared.term.TermKind.{TermKind}
-use Rattle.store.specs.declared.term.TermKind.TheVariants.{Var, App, Quant}
 use Rattle.store.specs.Spans.{cells_of}
-use Rattle.store.specs.Tables.{Tables, tables, term_at, children_of, owner_of, Closed}
+use Rattle.store.specs.Tables.{Tables, tables, children_of, owner_of, Closed}
 use Rattle.request.specs.declared.kinds.LogEntry.{LogEntry}
 use Rattle.request.specs.declared.kinds.Pair.{Pair}
 use Rattle.request.specs.declared.request.Request.{Request}

@@ -16,7 +16,7 @@ returns-then-not-are_ends g c = refused_ends _ _ _ _ _ (not_from_Decides _ c.are
 
 pub returns-in_err-permit : goal.returns-in_err-permit
 returns-in_err-permit g c =
-    let p = err_from_is_err_and c.from-residual.result c.from-residual.ensures.1 in
+    let p = err_from_is_err_and c.from_residual.result c.from_residual.ensures.1 in
     refused_permit _ _ _ _ _ _ _ (c.are_ends.ensures.0 c.if-not-are_ends.false) c.in_err-permit.ensures p.1 p.2
 
 pub returns-in-Some : goal.returns-in-Some

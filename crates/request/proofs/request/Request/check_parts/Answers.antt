@@ -1,10 +1,10 @@
-use Rattle.std.proofs.Common.{◌≡◌, sym, ap, ◌∙◌, subst}
+use Rattle.std.proofs.Common.{sym, ap, ◌∙◌, subst}
 use Rattle.std.specs.List.{slice_get}
 use Rattle.std.proofs.lemmas.Option.{slice_get-get_or}
 use Rattle.std.proofs.lemmas.Bool.Decides.{not_from_Decides}
 use Rattle.store.specs.declared.fault.Refusal.TheVariants.{BadPart}
 use Rattle.store.proofs.Decided.{Below, Each, below_none, below_next, below_all}
-use Rattle.request.specs.Asked.{asked, parts}
+use Rattle.request.specs.Asked.{asked}
 use Rattle.request.specs.Grounds.{PartRules, Faulted}
 use Rattle.request.proofs.Faults.{at_part}
 use Rattle.request.proofs.Parts.{part_there}

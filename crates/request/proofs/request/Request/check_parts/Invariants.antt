@@ -1,5 +1,5 @@
 use Rattle.store.proofs.Decided.{Below}
-use Rattle.request.specs.Asked.{asked, parts}
+use Rattle.request.specs.Asked.{asked}
 use Rattle.request.specs.Grounds.{PartRules}
 use Rattle.request.proofs.request.Request.check_parts.Given as goal
 

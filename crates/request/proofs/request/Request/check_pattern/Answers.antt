@@ -1,9 +1,9 @@
-use Rattle.std.proofs.Common.{◌≡◌, length, sym, ap, ◌∙◌, subst, ⊎_elim, arith}
+use Rattle.std.proofs.Common.{length, sym, ap, ◌∙◌, subst, ⊎_elim, arith}
 use Rattle.store.specs.declared.fault.Refusal.TheVariants.{BadPattern}
 use Rattle.store.proofs.Decided.{some_not_none, same_some}
 use Rattle.store.specs.Refusals.{names_nothing}
 use Rattle.request.specs.Asked.{asked}
-use Rattle.request.specs.Grounds.{bad_pattern, Faulted, PatternRules}
+use Rattle.request.specs.Grounds.{bad_pattern, Faulted}
 use Rattle.request.proofs.Faults.{alone}
 use Rattle.request.proofs.request.Request.check_pattern.Goals as goal
 

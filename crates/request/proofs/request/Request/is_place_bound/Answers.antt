@@ -1,4 +1,4 @@
-use Rattle.std.proofs.Common.{◌≡◌, sym, ap, subst}
+use Rattle.std.proofs.Common.{sym, subst}
 use Rattle.store.specs.Tables.{tables, Closed}
 use Rattle.store.proofs.Decided.{some_not_none, same_some, refused}
 use Rattle.request.specs.Asked.{asked, BoundClosed}

@@ -4,7 +4,7 @@ use Rattle.rewrite.proofs.Numbering.{far_at}
 use Rattle.rewrite.proofs.complex.ComplexEqEqRewriter.possible_rewrite.Goals as goal
 
 pub returns-in_err-way : goal.returns-in_err-way
-returns-in_err-way g c = c.from-residual.ensures ∙ ap (option_map (λ p. p.to)) c.in_err-way.ensures ∙ sym (far_at _ c.args.idx)
+returns-in_err-way g c = c.from_residual.ensures ∙ ap (option_map (λ p. p.to)) c.in_err-way.ensures ∙ sym (far_at _ c.args.idx)
 
 pub returns : goal.returns
 returns g c = ap (option_map (λ p. p.to)) c.in_ok-way.ensures ∙ sym (far_at _ c.args.idx)

@@ -11,7 +11,7 @@ returns-in_err--from g c =
     let m = g.H.Host.meaning c.args.host.now S in
     let q = query m c.args.aside.now c.args.blame c.args.subpat in
     let low = g.R.EqRewriter.rules c.args.self.now.inner S in
-    c.from-residual.ensures ∙ sym (aside_none (live_ends q) _ (m.live c.args.blame) (m.live c.args.subpat) c.args.aside.now c.args.idx c.in_default.ensures (low.some_offer c.args.mark q)
+    c.from_residual.ensures ∙ sym (aside_none (live_ends q) _ (m.live c.args.blame) (m.live c.args.subpat) c.args.aside.now c.args.idx c.in_default.ensures (low.some_offer c.args.mark q)
     (ap is_some (sym c.possible_rewrite.ensures) ∙ sym c.is_some.ensures ∙ c.if-is_some.false) c.in_err--from.ensures)
 
 pub returns : goal.returns
