@@ -1,5 +1,5 @@
-use Rattle.std.proofs.Common.{◌≡◌, ◌<◌, ◌≤◌, sym, refl, ap, ◌∙◌, subst}
-use Rattle.host.specs.Reading.{link_at, root}
+use Rattle.std.proofs.Common.{◌<◌, ◌≤◌, sym, refl, ap, ◌∙◌, subst}
+use Rattle.host.specs.Reading.{root}
 use Rattle.host.proofs.Roots.{root_next, root_end}
 use Rattle.host.proofs.classes.root.Goals as goal
 

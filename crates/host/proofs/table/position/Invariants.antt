@@ -1,6 +1,4 @@
-use Rattle.std.proofs.Common.{◌≡◌, ℕ, ◌<◌, Some}
-use Rattle.std.specs.List.{slice_get}
-use Rattle.request.specs.declared.kinds.Pair.{Pair}
+use Rattle.std.proofs.Common.{◌≡◌}
 use Rattle.store.proofs.Decided.{Below}
 use Rattle.host.proofs.table.position.Given as goal
 
