@@ -1,6 +1,6 @@
 -- Each rewriter keeps the offer rules, and which are steady.
-use Rattle.std.specs.Prelude.{◌≡◌, ℕ, suc, ◌+◌, ◌-◌, ◌<◌, ◌≤◌, Bool, true, false, cond, not, ◌&&◌, ◌⊎◌, List, [], ◌∷◌, ◌++◌, map, length, drop, Some, None, Option, ◌==◌, nat_le, nat_lt, refl}
-use Rattle.std.proofs.Common.{sym, ap, subst, ◌∙◌, inl, inr, ⊎_elim, arith, length-drop}
+use Rattle.std.specs.Prelude.{◌≡◌, ℕ, suc, ◌+◌, ◌<◌, Bool, true, false, cond, not, ◌&&◌, ◌⊎◌, List, [], ◌∷◌, ◌++◌, length, drop, Some, None, Option, ◌==◌, nat_le, nat_lt, refl}
+use Rattle.std.proofs.Common.{ap, subst, inl, inr, arith, length-drop}
 use Rattle.std.specs.List.{slice_get, AllByRecursion}
 use Rattle.std.proofs.ByRecursion.{All-append, All-map, All-weaker}
 use Rattle.std.proofs.lemmas.Bool.{and_parts, ltb-true, leb-true, le-leb, cond_both}
@@ -11,7 +11,7 @@ use Rattle.request.specs.declared.kinds.Pair.{Pair}
 use Rattle.host.specs.Kept.{the_owner}
 use Rattle.host.specs.Reading.{is_the}
 use Rattle.rewrite.specs.declared.turn.Turn.{Turn}
-use Rattle.rewrite.specs.Meaning.{Offers, Query, RewriterMeaning, OfferRules, Proper, Steady, Over, relisted}
+use Rattle.rewrite.specs.Meaning.{Offers, Query, RewriterMeaning, OfferRules, Proper, Steady, Over}
 use Rattle.rewrite.specs.Kinds.{is_proper, leaves, one_offer, upcoming, basic_offer, basic_next, basic, turned, one_way, ways, far_ends, complex, ends_as, live_ends, if_same, same_ends, own_or, own_next, custom, nodes_from, aside_as, aside_offer, below_or, force}
 
 chosen : {X : Type 0} (b : Bool) (x y : X) → cond b (Some x) None ≡ Some y → (b ≡ true) × (x ≡ y)

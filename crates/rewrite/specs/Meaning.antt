@@ -1,5 +1,5 @@
 -- What a rewriter means, and the rules that each rewriter keeps.
-use Rattle.std.specs.Prelude.{◌≡◌, ℕ, ◌<◌, Bool, true, cond, ◌⊎◌, List, [], ◌∷◌, length, Some, None, Option}
+use Rattle.std.specs.Prelude.{◌≡◌, ℕ, ◌<◌, Bool, true, cond, ◌⊎◌, List, length, Some, None, Option}
 use Rattle.std.specs.List.{slice_get, AllByRecursion}
 use Rattle.store.specs.Tables.{Tables, owner_of}
 use Rattle.request.specs.declared.kinds.Pair.{Pair}

@@ -1,4 +1,4 @@
-use Rattle.std.proofs.Common.{◌≡◌, length, sym, ap, ◌∙◌, arith}
+use Rattle.std.proofs.Common.{length, arith}
 use Rattle.std.proofs.lemmas.List.{at_drop_all}
 use Rattle.store.specs.Tables.{tables}
 use Rattle.rewrite.specs.Kinds.{ways}

@@ -1,4 +1,4 @@
-use Rattle.std.proofs.Common.{◌≡◌, sym, ap, ◌∙◌}
+use Rattle.std.proofs.Common.{sym, ap, ◌∙◌}
 use Rattle.std.specs.Option.{option_map}
 use Rattle.rewrite.proofs.Numbering.{far_at}
 use Rattle.rewrite.proofs.complex.ComplexEqEqRewriter.possible_rewrite.Goals as goal
