@@ -1,7 +1,6 @@
 // Reads requests as text and says of each whether it is admitted, and what it holds.
 #![tactic(auto)]
 
-
 mod arguments;
 mod expected;
 mod host_tables;

@@ -1,5 +1,5 @@
 -- A level goes on with its next child.
-use Rattle.std.proofs.Common.{◌≡◌, ℕ, zero, suc, ◌+◌, ◌<◌, ◌≤◌, List, [], ◌∷◌, ◌++◌, reverse, length, drop, Some, None, Option, sym, refl, ap, ◌∙◌, subst, append-nil, add-one, arith, length-append}
+use Rattle.std.proofs.Common.{◌≡◌, ℕ, zero, suc, ◌+◌, ◌≤◌, List, [], ◌∷◌, ◌++◌, reverse, length, drop, Some, None, Option, sym, refl, ap, ◌∙◌, subst, append-nil, add-one, arith, length-append}
 use Rattle.std.specs.List.{slice_get}
 use Rattle.std.proofs.lemmas.List.{reverse-append}
 use Rattle.store.proofs.Decided.{some_not_none, same_some}
@@ -9,21 +9,19 @@ use Rattle.store.specs.declared.term.Term.{Term}
 use Rattle.store.specs.declared.term.TermKind.{TermKind}
 use Rattle.store.specs.declared.term.TermKind.TheVariants.{Var, App, Quant}
 use Rattle.store.specs.Held.{held}
-use Rattle.store.specs.Tables.{Tables, term_at, kids}
+use Rattle.store.specs.Tables.{term_at, kids}
 use Rattle.request.specs.declared.kinds.Pair.{Pair}
 use Rattle.request.specs.Asked.{Asked}
 use Rattle.request.specs.Places.{Preorder, Preorders, place, opened, opened_in, opened_as}
 use Rattle.rewrite.specs.Meaning.{RewriterMeaning}
 use Rattle.matcher.specs.declared.level.Level.{Level}
-use Rattle.matcher.specs.declared.level.Mode.{Mode}
-use Rattle.matcher.specs.declared.level.Mode.TheVariants.{Down, Hit, Miss}
+use Rattle.matcher.specs.declared.level.Mode.TheVariants.{Hit}
 use Rattle.matcher.specs.declared.machine.PatternMatcher.{PatternMatcher}
-use Rattle.matcher.specs.Machine.{pats_in, pats_of, drop_pats, left, resume, phase_run, children_run, Finite, size, owed, cap, LevelSound, Stacked, ModeSound}
-use Rattle.matcher.specs.Running.{Run, Out, reached, failed, tick, on_out, run, kids_run}
+use Rattle.matcher.specs.Machine.{pats_in, pats_of, drop_pats, left, resume, phase_run, Finite, size, LevelSound, Stacked, ModeSound}
+use Rattle.matcher.specs.Running.{tick, on_out, run, kids_run}
 use Rattle.matcher.specs.Search.{Asking}
 use Rattle.matcher.specs.Stepping.{stack, next_child, kept_level, next_mode, Advances, Stepped}
 use Rattle.matcher.specs.Trees.{Pat, Pats, hole, ground, app, end, more, places, places_all, part, part_in, tree_of, tree_as, all_trees, below_as, view}
-use Rattle.matcher.proofs.Depth.{size_is}
 use Rattle.matcher.proofs.Offering.{drop_nth, drop_none}
 use Rattle.matcher.proofs.Turning.{stepped_at}
 

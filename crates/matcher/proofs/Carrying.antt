@@ -1,6 +1,5 @@
 -- Derivations carried over to a rewriter that offers more.
-use Rattle.std.proofs.Common.{◌≡◌, ℕ, zero, suc, Bool, true, false, cond, List, [], ◌∷◌, ◌++◌, is_some, Some, None, Option, sym, refl, ap, ◌∙◌, subst, ⊎_elim, arith}
-use Rattle.std.specs.List.{slice_get}
+use Rattle.std.proofs.Common.{◌≡◌, ℕ, zero, suc, Bool, true, false, cond, List, [], ◌∷◌, is_some, Some, None, Option, sym, refl, ap, subst, arith}
 use Rattle.std.proofs.lemmas.Bool.{true≢false}
 use Rattle.store.proofs.Decided.{some_not_none, same_some}
 use Rattle.store.specs.declared.term.HasVar.{HasVar}
@@ -13,11 +12,11 @@ use Rattle.request.specs.declared.kinds.Pair.{Pair}
 use Rattle.request.specs.Asked.{Asked}
 use Rattle.host.specs.Meaning.{HostMeaning, HostRules}
 use Rattle.rewrite.specs.Meaning.{Offers, Query, RewriterMeaning, Steady, query}
-use Rattle.rewrite.specs.Kinds.{custom, force, ends_as, live_ends, if_same, same_ends, own_or, aside_as, aside_offer, below_or, one_offer}
+use Rattle.rewrite.specs.Kinds.{custom, force, ends_as, live_ends, if_same, same_ends, own_or, aside_offer, below_or}
 use Rattle.rewrite.specs.Keeping.{custom_steady, force_steady}
 use Rattle.matcher.specs.Derivations.{Nth, Offered, Derives, DerivesAll, First}
-use Rattle.matcher.specs.Laws.{answers, FindsFirst, OffersMore, MoreFinds, CustomFinds, ForceFinds}
-use Rattle.matcher.specs.Search.{Asking, Hit, asking, seek, if_finished, found, ends}
+use Rattle.matcher.specs.Laws.{answers, FindsFirst, MoreFinds, CustomFinds, ForceFinds}
+use Rattle.matcher.specs.Search.{Hit, asking, seek, if_finished, found}
 use Rattle.matcher.specs.Trees.{Pat, Pats, hole, ground, app, end, more, View, part, part_in, tree_of, tree_as, all_trees, view}
 use Rattle.matcher.proofs.Firsts.{FirstAt, seek_first}
 

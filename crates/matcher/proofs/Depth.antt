@@ -1,14 +1,14 @@
 -- A term with at most 64 places is read whole: its tree does not hang on how deep it may be read.
-use Rattle.std.proofs.Common.{◌≡◌, ℕ, zero, suc, ◌+◌, ◌≤◌, List, [], ◌∷◌, ◌++◌, length, Some, None, Option, sym, refl, ap, ◌∙◌, subst, ap₂, arith, length-append}
+use Rattle.std.proofs.Common.{◌≡◌, ℕ, zero, suc, ◌≤◌, List, length, Some, None, Option, refl, ap, ◌∙◌, ap₂, arith, length-append}
 use Rattle.store.specs.declared.term.HasVar.{HasVar}
 use Rattle.store.specs.declared.term.HasVar.TheVariants.{No, Yes, Unknown}
 use Rattle.store.specs.declared.term.Term.{Term}
 use Rattle.store.specs.declared.term.TermKind.{TermKind}
 use Rattle.store.specs.declared.term.TermKind.TheVariants.{Var, App, Quant}
-use Rattle.store.specs.Tables.{Tables, term_at, kids}
+use Rattle.store.specs.Tables.{term_at, kids}
 use Rattle.request.specs.Asked.{Asked}
 use Rattle.request.specs.Places.{Preorder, Preorders, place, none, opened, opened_in, opened_as}
-use Rattle.matcher.specs.Trees.{Pat, Pats, hole, ground, app, end, more, places, places_all, tree_as, tree_of, all_trees, part_in, part}
+use Rattle.matcher.specs.Trees.{Pat, app, more, places, places_all, tree_as, tree_of, all_trees, part_in}
 
 module _ (R : Asked) where
   as_same : (s : ℕ) (k : TermKind) (m : HasVar) (ks : List ℕ) (f g : ℕ → Pat) → all_trees f (opened_as k m ks) ≡ all_trees g (opened_as k m ks) → tree_as R s k m (all_trees f ks) ≡ tree_as R s k m (all_trees g ks)

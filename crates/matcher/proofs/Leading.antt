@@ -1,16 +1,14 @@
 -- What any rewriter finds leads from the term to the part, if its pairs leave from nodes of the term that is asked for.
-use Rattle.std.proofs.Common.{◌≡◌, ℕ, Bool, true, false, cond, eqb, List, [], ◌∷◌, ◌++◌, Some, None, Option, sym, refl, ap, ◌∙◌, subst}
+use Rattle.std.proofs.Common.{◌≡◌, ℕ, Bool, true, false, cond, eqb, List, [], ◌∷◌, ◌++◌, Some, None, Option, sym, refl, subst}
 use Rattle.std.proofs.lemmas.Bool.{eqb-true, eqb-false}
 use Rattle.store.proofs.Decided.{some_not_none, same_some}
-use Rattle.store.specs.Tables.{Tables}
 use Rattle.request.specs.declared.kinds.Pair.{Pair}
 use Rattle.host.specs.Kept.{the_owner}
-use Rattle.host.specs.Meaning.{HostMeaning}
 use Rattle.host.specs.Reading.{is_the}
 use Rattle.rewrite.specs.Meaning.{Offers, RewriterMeaning, query}
 use Rattle.matcher.specs.Derivations.{Leads, LeadsAll}
 use Rattle.matcher.specs.Laws.{FoundLeads}
-use Rattle.matcher.specs.Search.{Asking, Hit, hit, asking, behind, follow, else_do, ends, try_offers, by_offers, if_owned, if_fits, exact, to_bound, at_app, seek, seek_all, if_finished, found}
+use Rattle.matcher.specs.Search.{Asking, Hit, hit, asking, behind, follow, else_do, ends, try_offers, by_offers, if_owned, if_fits, exact, to_bound, at_app, seek, seek_all, if_finished}
 use Rattle.matcher.specs.Trees.{Pat, Pats, hole, ground, app, end, more, View, view}
 
 -- what a search gives, if it gives anything

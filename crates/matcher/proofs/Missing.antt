@@ -1,11 +1,11 @@
 -- A level goes on after a failure: it asks, or takes the next offer.
-use Rattle.std.proofs.Common.{◌≡◌, ℕ, zero, suc, ◌+◌, ◌<◌, ◌≤◌, Bool, true, false, cond, List, [], ◌∷◌, ◌++◌, reverse, length, take, drop, Some, None, Option, sym, refl, ap, ◌∙◌, subst, append-nil, add-one, arith, length-take}
+use Rattle.std.proofs.Common.{◌≡◌, ℕ, suc, ◌+◌, ◌<◌, ◌≤◌, Bool, true, false, cond, List, [], ◌∷◌, ◌++◌, reverse, length, take, drop, Some, None, Option, sym, refl, ap, ◌∙◌, subst, append-nil, add-one, arith, length-take}
 use mathlib.Core.Path.{transport}
 use Rattle.std.specs.List.{slice_get}
 use Rattle.std.proofs.lemmas.List.{reverse-append, length_push, length-reverse, drop_all}
 use Rattle.store.proofs.Decided.{some_not_none, nth_there}
 use Rattle.store.specs.Held.{held}
-use Rattle.store.specs.Tables.{Tables, term_at, owner_of}
+use Rattle.store.specs.Tables.{term_at, owner_of}
 use Rattle.request.specs.declared.kinds.Pair.{Pair}
 use Rattle.request.specs.Asked.{Asked}
 use Rattle.host.specs.Meaning.{HostMeaning}
@@ -13,14 +13,13 @@ use Rattle.rewrite.specs.Meaning.{Offers, Query, RewriterMeaning, OfferRules, of
 use Rattle.matcher.specs.declared.level.Level.{Level}
 use Rattle.matcher.specs.declared.level.Mode.{Mode}
 use Rattle.matcher.specs.declared.level.Mode.TheVariants.{Down, Hit, Miss}
-use Rattle.matcher.specs.declared.level.Phase.{Phase}
 use Rattle.matcher.specs.declared.level.Phase.TheVariants.{Plain, Offered}
 use Rattle.matcher.specs.declared.machine.PatternMatcher.{PatternMatcher}
-use Rattle.matcher.specs.Machine.{pats_in, pats_of, drop_pats, tos_of, left, resume, runner, phase_run, children_run, Finite, size, owed, cap, PhaseSound, LevelSound, Stacked, ModeSound}
-use Rattle.matcher.specs.Running.{Run, Out, reached, failed, tick, answer_run, offers_run, one_run, plain_run, kids_run}
+use Rattle.matcher.specs.Machine.{tos_of, left, resume, runner, phase_run, PhaseSound, LevelSound, Stacked, ModeSound}
+use Rattle.matcher.specs.Running.{Run, tick, answer_run, offers_run, one_run}
 use Rattle.matcher.specs.Search.{Asking, asking, ends}
 use Rattle.matcher.specs.Stepping.{stack, asked_level, Asks, Taken, taken_by, taken, taken_level, taken_pairs, taken_mode, Takes, MachineSound, Stepped, machine_left}
-use Rattle.matcher.specs.Trees.{Pat, Pats, places, places_all, part, fits_as, view}
+use Rattle.matcher.specs.Trees.{fits_as, view}
 use Rattle.matcher.proofs.Offering.{drop_nth}
 use Rattle.matcher.proofs.Turning.{stepped_at, cap_64}
 use Rattle.matcher.proofs.Advancing.{size_now}

@@ -1,12 +1,10 @@
 -- An answer's offers, one after the other.
-use Rattle.std.proofs.Common.{◌≡◌, ℕ, zero, suc, ◌+◌, ◌≤◌, Bool, true, false, cond, List, [], ◌∷◌, length, drop, Some, None, Option, sym, refl, ap, ◌∙◌, subst, add-one, arith, length-drop}
+use Rattle.std.proofs.Common.{◌≡◌, ℕ, zero, suc, ◌+◌, ◌≤◌, true, false, cond, List, [], ◌∷◌, length, drop, Some, None, Option, sym, refl, ap, ◌∙◌, add-one, arith, length-drop}
 use Rattle.std.specs.List.{slice_get}
 use Rattle.std.proofs.lemmas.List.{drop_all}
 use Rattle.store.proofs.Decided.{some_not_none, same_some}
 use Rattle.host.specs.Reading.{is_the}
-use Rattle.request.specs.declared.kinds.Pair.{Pair}
 use Rattle.rewrite.specs.Meaning.{Offers, counted, offer_at}
-use Rattle.rewrite.specs.declared.offered.Offered.{Offered}
 use Rattle.matcher.specs.Search.{Hit, hit, behind, else_do, ends, try_offers, by_offers, if_owned}
 use Rattle.matcher.specs.Trees.{View}
 

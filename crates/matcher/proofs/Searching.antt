@@ -1,10 +1,8 @@
 -- From a fresh matcher to what the search finds.
-use Rattle.std.proofs.Common.{◌≡◌, ℕ, ◌≤◌, Bool, true, false, cond, List, [], ◌∷◌, reverse, length, Some, None, Option, sym, refl, ap, ◌∙◌, subst, arith}
+use Rattle.std.proofs.Common.{◌≡◌, ℕ, Bool, true, false, cond, List, [], reverse, Some, None, sym, refl, ap, ◌∙◌, subst, arith}
 use mathlib.Core.Path.{transport}
 use Rattle.store.specs.Held.{held}
-use Rattle.request.specs.declared.kinds.Pair.{Pair}
 use Rattle.request.specs.Asked.{Asked}
-use Rattle.request.specs.Places.{Preorder}
 use Rattle.host.specs.Meaning.{HostMeaning}
 use Rattle.rewrite.specs.Meaning.{RewriterMeaning}
 use Rattle.matcher.specs.declared.level.Mode.{Mode}
@@ -12,8 +10,7 @@ use Rattle.matcher.specs.declared.level.Mode.TheVariants.{Down, Hit, Miss}
 use Rattle.matcher.specs.declared.machine.PatternMatcher.{PatternMatcher}
 use Rattle.matcher.specs.Machine.{left, Finite, ModeSound, Stacked}
 use Rattle.matcher.specs.Running.{Run}
-use Rattle.matcher.specs.Search.{Asking, asking, hit, seek, if_finished}
-use Rattle.matcher.specs.Search as found
+use Rattle.matcher.specs.Search.{Asking, asking, seek, if_finished}
 use Rattle.matcher.specs.Stepping.{stack, MachineSound, machine_left, Starts, Ends, Searched, stopped_with, ends_in, success}
 use Rattle.matcher.specs.Trees.{part, view}
 use Rattle.matcher.proofs.Depth.{size_is}

@@ -1,5 +1,5 @@
 -- Each turn of the machine leaves the answer as it is and takes one step, over plain lists.
-use Rattle.std.proofs.Common.{◌≡◌, ℕ, zero, suc, ◌+◌, ◌<◌, ◌≤◌, Bool, true, false, cond, eqb, ◌⊎◌, List, [], ◌∷◌, ◌++◌, reverse, length, drop, Some, None, Option, sym, refl, ap, ◌∙◌, subst, ap₂, inl, inr, ⊎_elim, append-nil, arith}
+use Rattle.std.proofs.Common.{◌≡◌, ℕ, suc, ◌<◌, ◌≤◌, Bool, true, false, cond, eqb, List, [], ◌∷◌, reverse, length, Some, None, Option, sym, refl, ap, ◌∙◌, subst, append-nil, arith}
 use mathlib.Core.Path.{transport}
 use Rattle.std.proofs.lemmas.List.{length_push, length-reverse, reverse-append}
 use Rattle.std.proofs.lemmas.Bool.{eq-eqb, ne_eqb, cond-true, cond-false}
@@ -10,25 +10,24 @@ use Rattle.store.specs.declared.term.Term.{Term}
 use Rattle.store.specs.declared.term.TermKind.{TermKind}
 use Rattle.store.specs.declared.term.TermKind.TheVariants.{Var, App, Quant}
 use Rattle.store.specs.Held.{held}
-use Rattle.store.specs.Tables.{Tables, term_at, kids}
+use Rattle.store.specs.Tables.{term_at, kids}
 use Rattle.request.specs.declared.kinds.Pair.{Pair}
 use Rattle.request.specs.Asked.{Asked}
-use Rattle.request.specs.Places.{Preorder, Preorders, place, opened}
+use Rattle.request.specs.Places.{Preorder, place, opened}
 use Rattle.host.specs.Reading.{is_the}
 use Rattle.rewrite.specs.Meaning.{Offers, RewriterMeaning}
 use Rattle.matcher.specs.declared.level.Level.{Level}
 use Rattle.matcher.specs.declared.level.Mode.{Mode}
 use Rattle.matcher.specs.declared.level.Mode.TheVariants.{Down, Hit, Miss}
-use Rattle.matcher.specs.declared.level.Phase.TheVariants.{Plain}
 use Rattle.matcher.specs.declared.level.Whole.{Whole}
 use Rattle.matcher.specs.declared.level.Whole.TheVariants.{Same, By, Not}
 use Rattle.matcher.specs.declared.machine.PatternMatcher.{PatternMatcher}
-use Rattle.matcher.specs.Machine.{whole_hit, pats_in, pats_of, drop_pats, left, resume, runner, Finite, size, owed, cap, LevelSound, Stacked, ModeSound}
-use Rattle.matcher.specs.Running.{Run, Out, reached, failed, tick, put, run, kids_run, plain_run, fits_run}
+use Rattle.matcher.specs.Machine.{whole_hit, pats_in, pats_of, left, resume, runner, size, cap, LevelSound, Stacked, ModeSound}
+use Rattle.matcher.specs.Running.{Run, Out, reached, tick, put, run, kids_run, plain_run, fits_run}
 use Rattle.matcher.specs.Search.{Asking, hit, exact, by_offers, try_offers, if_owned, seek}
 use Rattle.matcher.specs.Search as found
 use Rattle.matcher.specs.Stepping.{stack, settled_pairs, settled_mode, opened_level, Settles, Opens, MachineSound, Stepped, machine_left}
-use Rattle.matcher.specs.Trees.{Pat, Pats, hole, ground, app, end, more, places, places_all, part, part_in, tree_of, tree_as, all_trees, view}
+use Rattle.matcher.specs.Trees.{Pat, Pats, hole, ground, app, places, places_all, part, part_in, tree_of, tree_as, all_trees, view}
 use Rattle.matcher.proofs.Depth.{stable_all}
 
 places_some : (p : Pat) → 1 ≤ places p

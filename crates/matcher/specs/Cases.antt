@@ -1,15 +1,13 @@
 -- Eight worked cases over a small store.
-use Rattle.std.specs.Prelude.{◌≡◌, ℕ, Bool, cond, ◌&&◌, ◌||◌, List, [], ◌∷◌, length, Some, None, codes, Option, ◌==◌}
+use Rattle.std.specs.Prelude.{◌≡◌, ℕ, cond, ◌&&◌, ◌||◌, List, [], ◌∷◌, length, Some, None, codes, Option, ◌==◌}
 use Rattle.std.specs.List.{slice_get}
 use Rattle.store.specs.declared.span.Span.{Span}
 use Rattle.store.specs.declared.term.ENode.{ENode}
 use Rattle.store.specs.declared.term.HasVar.{HasVar}
 use Rattle.store.specs.declared.term.HasVar.TheVariants.{No, Yes}
 use Rattle.store.specs.declared.term.Term.{Term}
-use Rattle.store.specs.declared.term.TermKind.{TermKind}
 use Rattle.store.specs.declared.term.TermKind.TheVariants.{Var, App}
 use Rattle.store.specs.Tables.{Tables}
-use Rattle.request.specs.declared.kinds.LogEntry.{LogEntry}
 use Rattle.request.specs.declared.kinds.Pair.{Pair}
 use Rattle.request.specs.Asked.{Asked, part_at, entry_term}
 use Rattle.request.specs.Bindings.{of_terms}

@@ -1,6 +1,6 @@
 -- What the search achieves.
 use Rattle.std.specs.Prelude.{◌≡◌, ℕ, true, List, is_some, Some, Option}
-use Rattle.store.specs.Tables.{Tables, Closed}
+use Rattle.store.specs.Tables.{Tables}
 use Rattle.request.specs.declared.kinds.Pair.{Pair}
 use Rattle.request.specs.Asked.{Asked}
 use Rattle.host.specs.Meaning.{HostMeaning, HostRules}

@@ -1,6 +1,5 @@
 -- The search as a machine: what its levels still have to do.
-use Rattle.std.specs.Prelude.{◌≡◌, ℕ, zero, suc, ◌+◌, ◌≤◌, true, List, [], ◌∷◌, reverse, length, drop, Some, None, Option}
-use Rattle.store.specs.Tables.{Tables, term_at}
+use Rattle.std.specs.Prelude.{◌≡◌, ℕ, zero, suc, ◌+◌, ◌≤◌, true, List, [], ◌∷◌, length, drop, Some, None, Option}
 use Rattle.request.specs.declared.kinds.Pair.{Pair}
 use Rattle.request.specs.Asked.{Asked}
 use Rattle.request.specs.Places.{Preorder, opened}
@@ -14,7 +13,7 @@ use Rattle.matcher.specs.declared.level.Place.{Place}
 use Rattle.matcher.specs.declared.level.Place.TheVariants.{Bound, Unbound, Opened}
 use Rattle.matcher.specs.declared.level.Whole.{Whole}
 use Rattle.matcher.specs.declared.level.Whole.TheVariants.{Same, By, Not}
-use Rattle.matcher.specs.Running.{Run, Out, reached, failed, over, on_out, Kids, offers_run, plain_run, run, kids_run, tick}
+use Rattle.matcher.specs.Running.{Run, Out, reached, failed, over, on_out, Kids, offers_run, plain_run, run, kids_run}
 use Rattle.matcher.specs.Search.{Asking, hit}
 use Rattle.matcher.specs.Search as found
 use Rattle.matcher.specs.Trees.{Pat, Pats, hole, ground, app, end, more, places, places_all, part, part_in, all_trees, view}

@@ -1,5 +1,5 @@
 -- The search from a term to a part, by any rewriter, with its state.
-use Rattle.std.specs.Prelude.{ℕ, Bool, cond, List, [], ◌∷◌, ◌++◌, Some, None, Option, ◌==◌}
+use Rattle.std.specs.Prelude.{ℕ, cond, List, [], ◌∷◌, ◌++◌, Some, None, Option, ◌==◌}
 use Rattle.request.specs.declared.kinds.Pair.{Pair}
 use Rattle.host.specs.Meaning.{HostMeaning}
 use Rattle.host.specs.Reading.{is_the}

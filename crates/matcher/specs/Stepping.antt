@@ -14,7 +14,7 @@ use Rattle.matcher.specs.declared.level.Phase.TheVariants.{Plain, Offered}
 use Rattle.matcher.specs.declared.level.Whole.{Whole}
 use Rattle.matcher.specs.declared.level.Whole.TheVariants.{Same, By, Not}
 use Rattle.matcher.specs.declared.machine.PatternMatcher.{PatternMatcher}
-use Rattle.matcher.specs.Machine.{left, Stacked, ModeSound, LevelSound, Finite}
+use Rattle.matcher.specs.Machine.{left, Stacked, ModeSound, Finite}
 use Rattle.matcher.specs.Running.{Run, tick}
 use Rattle.matcher.specs.Search.{Asking, asking, ends, hit}
 use Rattle.matcher.specs.Search as found

@@ -1,4 +1,4 @@
-use Rattle.std.proofs.Common.{◌≡◌, ◌+◌, [], ◌∷◌, sym, refl, ap, ◌∙◌}
+use Rattle.std.proofs.Common.{◌+◌, [], ◌∷◌, sym, ap, ◌∙◌}
 use Rattle.store.specs.Tables.{tables}
 use Rattle.rewrite.specs.Meaning.{query}
 use Rattle.matcher.specs.Search.{behind, else_do, ends, if_owned, by_offers}

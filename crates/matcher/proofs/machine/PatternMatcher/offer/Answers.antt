@@ -1,4 +1,4 @@
-use Rattle.std.proofs.Common.{◌≡◌, ℕ, ◌<◌, length, sym, refl, ap, ◌∙◌, subst}
+use Rattle.std.proofs.Common.{◌<◌, length, sym, refl, ap, ◌∙◌, subst}
 use Rattle.store.specs.Tables.{tables}
 use Rattle.request.specs.Asked.{asked}
 use Rattle.rewrite.specs.Meaning.{query, offer_at}

@@ -1,9 +1,8 @@
-use Rattle.std.proofs.Common.{◌≡◌, sym, refl, ap, ◌∙◌}
+use Rattle.std.proofs.Common.{refl}
 use Rattle.store.specs.Tables.{tables}
 use Rattle.request.specs.Asked.{asked}
 use Rattle.rewrite.specs.Meaning.{query}
 use Rattle.matcher.specs.Search.{asking}
-use Rattle.matcher.specs.Stepping.{stack}
 use Rattle.matcher.proofs.Turning.{down_here, down_room, down_whole, down_variable, settled_turn, level_room, opened_turn}
 use Rattle.matcher.proofs.machine.PatternMatcher.on_down.Goals as goal
 

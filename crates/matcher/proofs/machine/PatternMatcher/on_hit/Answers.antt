@@ -5,5 +5,5 @@ use Rattle.matcher.proofs.machine.PatternMatcher.on_hit.Goals as goal
 pub overflow_add-n : goal.overflow_add-n
 overflow_add-n c =
     let inside = nth_inside c.below.result.now c.args.level.child _ (sym c.in-Some.ensures) in
-    let ok = c.below.type-inv in
+    let ok = c.below.type_inv in
     search rules

@@ -1,4 +1,3 @@
-use Rattle.std.proofs.Common.{◌≡◌, sym, refl}
 use Rattle.request.specs.Asked.{asked}
 use Rattle.store.specs.Tables.{tables}
 use Rattle.matcher.proofs.Missing.{levels_room, ask_turn}

@@ -1,6 +1,5 @@
-use Rattle.std.proofs.Common.{◌≡◌, sym, refl}
+use Rattle.std.proofs.Common.{refl}
 use Rattle.request.specs.Asked.{asked}
-use Rattle.store.specs.Tables.{tables}
 use Rattle.matcher.specs.declared.level.Mode.TheVariants.{Hit, Miss}
 use Rattle.matcher.specs.declared.machine.PatternMatcher.{PatternMatcher}
 use Rattle.matcher.proofs.Advancing.{advance_turn}
