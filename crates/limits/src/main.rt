@@ -1,7 +1,6 @@
 // Checks stores and requests on both sides of each limit and each rule, and says what each check answered.
 #![tactic(auto)]
 
-
 mod asked;
 mod laid;
 mod largest;
