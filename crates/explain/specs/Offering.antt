@@ -1,5 +1,5 @@
 -- What a rewriter is asked, and what it offers then. Assumes nothing.
-use Rattle.std.specs.Prelude.{ℕ, List, [], Some, None, vec_items, Option}
+use Rattle.std.specs.Prelude.{List, [], vec_items, Option}
 use Rattle.host.specs.Meaning.{HostMeaning}
 use Rattle.request.specs.declared.kinds.Pair.{Pair}
 use Rattle.rewrite.specs.Kinds.{basic, complex, custom, force}

@@ -1,5 +1,5 @@
 -- The request that the lines read so far make. Assumes nothing.
-use Rattle.std.specs.Prelude.{ℕ, ◌-◌, ◌^◌, List, [], Some, None, vec_items, Option}
+use Rattle.std.specs.Prelude.{ℕ, ◌-◌, ◌^◌, [], Some, None, vec_items, Option}
 use Rattle.std.specs.Option.{unwrap_or}
 use Rattle.request.specs.Asked.{Asked}
 use Rattle.request.specs.Bindings as request

@@ -1,4 +1,4 @@
-use Rattle.std.proofs.Common.{◌≡◌, [], ◌∷◌, ◌++◌, vec_items, sym, ap, ◌∙◌}
+use Rattle.std.proofs.Common.{[], ◌∷◌, ◌++◌, vec_items, sym, ap, ◌∙◌}
 use Rattle.store.specs.Tables.{tables}
 use Rattle.rewrite.specs.Meaning.{query, counted}
 use Rattle.explain.proofs.Offered.{one_offered, none_offered, all_offered}

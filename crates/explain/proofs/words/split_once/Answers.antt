@@ -1,4 +1,4 @@
-use Rattle.std.proofs.Common.{◌<◌, length, ◌∙◌, subst, arith, take_all}
+use Rattle.std.proofs.Common.{◌<◌, length, subst, arith, take_all}
 use Rattle.explain.specs.Cuts.{Without}
 use Rattle.explain.proofs.Cutting.{cut_at}
 use Rattle.explain.proofs.words.split_once.Goals as goal

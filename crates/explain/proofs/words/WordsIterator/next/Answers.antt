@@ -1,4 +1,4 @@
-use Rattle.std.proofs.Common.{◌≡◌, ℕ, ◌<◌, false, length, get_or, sym, ap, ◌∙◌, subst, arith, rules}
+use Rattle.std.proofs.Common.{◌≡◌, ℕ, ◌<◌, false, length, get_or, subst, arith, rules}
 use Rattle.std.specs.Char.{is_ascii_whitespace}
 use Rattle.explain.proofs.Cutting.{first_word, no_word}
 use Rattle.explain.proofs.words.WordsIterator.next.Goals as goal

@@ -1,4 +1,4 @@
-use Rattle.std.proofs.Common.{sym, subst, inl, inr, arith}
+use Rattle.std.proofs.Common.{sym, subst, inl, inr, arith, rules}
 use Rattle.std.proofs.lemmas.Result.{err_from_is_err_and}
 use Rattle.store.specs.declared.fault.Refusal.TheVariants.{StoreBroken, BadPattern, BadPart, BadBindings, BadEntryCount, BadEntry}
 use Rattle.store.specs.Refusals.{names_nothing}
@@ -36,7 +36,7 @@ pub returns-in_err-check_entry_count : goal.returns-in_err-check_entry_count
 returns-in_err-check_entry_count c =
     let R = asked c.args.self in
     let p = err_from_is_err_and c.from_residual-in_err-check_entry_count.result c.from_residual-in_err-check_entry_count.ensures.1 in
-    record { answer = broke R BadEntryCount _ _ _ p.1 p.2 c.in_err-check_entry_count.ensures (clear R 5 (omega arith) (inr c.in_ok-check.ensures) (inr c.in_ok-check_pattern.ensures) (inr c.in_ok-check_parts.ensures) (inr c.in_ok-check_bindings.ensures) (inl (omega arith))); laws = admitted_keeps }
+    record { answer = broke R BadEntryCount _ _ _ p.1 p.2 c.in_err-check_entry_count.ensures (clear R 5 (omega arith) (inr c.in_ok-check.ensures) (inr c.in_ok-check_pattern.ensures) (inr c.in_ok-check_parts.ensures) (inr (search rules)) (inl (omega arith))); laws = admitted_keeps }
 
 pub returns-in_err-check_entries : goal.returns-in_err-check_entries
 returns-in_err-check_entries c =
