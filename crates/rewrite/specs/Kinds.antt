@@ -112,7 +112,7 @@ custom ρ = record {
   forbids = false;
 }
 
--- the set_aside nodes, if the term is live and the pattern term is not
+-- the set-aside nodes, if the term is live and the pattern term is not
 abbrev pub nodes_from : ℕ → List ℕ → Option Offers
 nodes_from n [] = None
 nodes_from n (a ∷ ns) = Some (record { from = n; tos = a ∷ ns })
@@ -129,7 +129,7 @@ from_of (Some o) = Some o.from
 abbrev pub aside_offer : Query → Option Offers
 aside_offer q = aside_as (q.host.live q.blame) (q.host.live q.subpat) q.aside
 
--- what is below, and the set_aside nodes only if that offers nothing
+-- what is below, and the set-aside nodes only if that offers nothing
 abbrev pub below_or : Option Offers → Option Offers → Option Offers
 below_or None o = o
 below_or (Some b) o = Some b

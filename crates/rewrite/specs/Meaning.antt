@@ -46,7 +46,7 @@ abbrev pub offer_at : Option Offers → ℕ → Option ℕ
 offer_at None i = None
 offer_at (Some o) i = slice_get o.tos i
 
--- a host that keeps its rules, and set_aside nodes that are there
+-- a host that keeps its rules, and set-aside nodes that are there
 pub record Proper (S : Tables) (q : Query) : Type 0 where
   pub host_ruled : HostRules S q.host
   pub aside_there : AllByRecursion (λ n. n < length S.nodes) q.aside

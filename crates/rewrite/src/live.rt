@@ -38,7 +38,7 @@ pub(crate) fn same_ends<H: Host>(
     }
 }
 
-// The live node of the term, if the set_aside nodes are offered from it: some are, and the pattern term is not live.
+// The live node of the term, if the set-aside nodes are offered from it: some are, and the pattern term is not live.
 pub(crate) fn aside_from<H: Host>(
     store: Store,
     host: &H,
