@@ -156,8 +156,9 @@ module _ (R : Asked) (ρ : RewriterMeaning) (A : Asking) where
     open_mode true = (omega (arith, size_opened), here.3)
     open_mode false = tt
 
-    pub open_room : length ls < 64
-    open_room = omega (arith, here.1, places_some (part R s))
+  -- there is room for a level of any place that is entered
+  pub open_room : (ls : List Level) (acc : List Pair) (b s st : ℕ) → ModeSound R ρ ls acc st (Down b s) → length ls < 64
+  open_room ls acc b s st here = omega (arith, here.1, places_some (part R s))
 
   -- the same, from the machine's mode
   module _ (M : PatternMatcher) (b s st : ℕ) (mode : M.mode ≡ Down b s) (sound : MachineSound R ρ A M st) where
@@ -175,10 +176,10 @@ module _ (R : Asked) (ρ : RewriterMeaning) (A : Asking) where
         stepped_at (machine_left R A M st) M' st' (stack M) (settled_pairs (held M.pairs) w) (settled_mode w) (ap (λ l. reverse (held l)) done.levels) done.pairs done.mode (down_before ∙ e) sound.levels
         (whole_sound (stack M) (held M.pairs) b s t st st' w down_here after f)
 
-    module _ (ne : b ≡ s → ⊥) (is : part R s ≡ app s (all_trees (part_in R 63) (opened R.store s))) where
-      pub level_room : length (held M.levels) < 64
-      level_room = omega (arith, open_room (stack M) (held M.pairs) b s st ne is down_here, length-reverse (held M.levels))
+    pub level_room : length (held M.levels) < 64
+    level_room = omega (arith, open_room (stack M) (held M.pairs) b s st down_here, length-reverse (held M.levels))
 
+    module _ (ne : b ≡ s → ⊥) (is : part R s ≡ app s (all_trees (part_in R 63) (opened R.store s))) where
       pub opened_turn : (M' : PatternMatcher) (mark : ℕ) → mark ≡ st → Opens R.store M b s mark M' → Stepped R ρ A (machine_left R A M st) M' st
       opened_turn M' mark e done =
           let l = opened_level b s st (length (held M.pairs)) in

@@ -13,7 +13,7 @@ pub settle-requires-in-Whole : goal.settle-requires-in-Whole
 settle-requires-in-Whole g c = down_room (asked c.args.request) _ _ c.args.self.now _ _ _ c.requires.mode c.requires.sound
 
 pub open-requires : goal.open-requires
-open-requires g c = level_room (asked c.args.request) _ _ c.args.self.now _ _ _ c.requires.mode c.requires.sound c.if-blame-subpat.false c.in-Opened.ensures
+open-requires g c = level_room (asked c.args.request) _ _ c.args.self.now _ _ _ c.requires.mode c.requires.sound
 
 pub returns-in-Bound : goal.returns-in-Bound
 returns-in-Bound g c =
