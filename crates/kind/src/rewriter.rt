@@ -1,7 +1,6 @@
 // A rewriter of a kind does what the rewriter in it does.
 ghost use Rattle.std.specs.Prelude.{◌≡◌};
 ghost use Rattle.kind.specs.Kinds.{of_kind, chosen, chosen_state, chosen_rules};
-ghost use Rattle.rewrite.specs.Meaning.{Steady};
 ghost use Rattle.store.specs.Tables.{Tables};
 
 use crate::kind::{AnyEq, Kind};
@@ -13,7 +12,8 @@ use store::Store;
 impl<'a> AnyEq<'a> {
     // Over an entry's own pairs; only ForceEq reads the booked ones too.
     pub fn new(kind: Kind, own: &'a [Pair], booked: &'a [Pair]) -> Self
-        ensures { (S : Tables) → chosen result S ≡ of_kind kind own.now booked.now S }
+        ensures first { (S : Tables) → chosen_state result ≡ (of_kind kind own.now booked.now S).first }
+        ensures means { (S : Tables) → chosen result S ≡ of_kind kind own.now booked.now S }
     {
         match kind {
             Kind::Basic => AnyEq::Basic(BasicEq::new(own)),
