@@ -2,3 +2,4 @@ pub mod Decided
 pub mod Laying
 pub mod Marks
 pub mod Holding
+pub mod Named

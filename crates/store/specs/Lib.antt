@@ -4,3 +4,4 @@ pub mod Terms
 pub mod Tables
 pub mod Rules
 pub mod Held
+pub mod Shown

@@ -1,6 +1,6 @@
 -- The rules of a store.
 use Rattle.std.specs.Prelude.{◌≡◌, ℕ, ◌<◌, ◌≤◌, List, map, length, Some, Result, MatchResult}
-use Rattle.std.specs.List.{AllByRecursion}
+use Rattle.std.specs.List.{All}
 use Rattle.store.specs.declared.fault.Fault.{Fault}
 use Rattle.store.specs.declared.fault.Refusal.TheVariants.{StoreBroken}
 use Rattle.store.specs.declared.fault.Culprit.TheVariants.{Nothing}
@@ -20,7 +20,7 @@ pub record NamedBefore (S : Tables) (j : ℕ) : Type 0 where
 
 -- the rules for the term numbered t
 pub record TermRules (S : Tables) (t : ℕ) (x : Term) : Type 0 where
-  pub children_below : AllByRecursion (λ c. c < t) (kids S x)
+  pub children_below : All (λ c. c < t) (kids S x)
   pub variable_childless : Childless x.kind x.child_ids.len
   pub symbol_listed : Listed x.kind (length S.symbols)
   pub has_var_follows : x.has_var ≡ follows x.kind (map (recorded S) (kids S x))
@@ -35,7 +35,7 @@ pub record StoreRules (S : Tables) : Type 0 where
   pub names_laid : Laid S.symbols (length S.names)
   pub names_distinct : (j : ℕ) → j < length S.symbols → NamedBefore S j → ⊥
   pub terms_ruled : (t : ℕ) (x : Term) → term_at S t ≡ Some x → TermRules S t x
-  pub owners_listed : AllByRecursion (λ n. n.owner < length S.terms) S.nodes
+  pub owners_listed : All (λ n. n.owner < length S.terms) S.nodes
 
 -- what the check of a store answers
 abbrev pub StoreChecked : Tables → Result (Unit {0}) Fault → Type 0

@@ -1,5 +1,5 @@
 -- A store by what its tables hold.
-use Rattle.std.specs.Prelude.{◌≡◌, ℕ, List, [], Some, None, Option}
+use Rattle.std.specs.Prelude.{◌≡◌, ℕ, Bool, true, false, ◌==◌, List, [], Some, None, Option}
 use Rattle.std.specs.List.{slice_get}
 use Rattle.std.specs.Option.{unwrap_or}
 use Rattle.store.specs.declared.span.Span.{Span}
@@ -48,13 +48,22 @@ name_in S (Some s) = cells_of S.names s
 abbrev pub name_of : Tables → ℕ → Option (List ℕ)
 name_of S f = name_in S (slice_get S.symbols f)
 
--- what is recorded of a term; unknown for one that is missing
-abbrev pub recorded_in : Option Term → HasVar
-recorded_in None = Unknown
-recorded_in (Some x) = x.has_var
+-- what is recorded of a term, and of one that is missing
+abbrev pub record_or : HasVar → Option Term → HasVar
+record_or m None = m
+record_or m (Some x) = x.has_var
 
+abbrev pub recorded_or : HasVar → Tables → ℕ → HasVar
+recorded_or m S t = record_or m (term_at S t)
+
+-- what is recorded of a term; unknown for one that is missing
 abbrev pub recorded : Tables → ℕ → HasVar
-recorded S t = recorded_in (term_at S t)
+recorded S t = recorded_or Unknown S t
+
+-- the owner of a node is this term
+abbrev pub is_the : Option ℕ → ℕ → Bool
+is_the None t = false
+is_the (Some o) t = (o == t)
 
 -- a term of the store that holds no variable and no quantifier
 abbrev pub Closed : Tables → ℕ → Type 0

@@ -1,7 +1,8 @@
 // A list of at most N items that lies in an array, so that it needs no allocator.
-ghost use Rattle.std.specs.Prelude.{◌≡◌, ◌≤◌, length};
+ghost use Rattle.std.specs.Prelude.{◌≡◌, ◌≤◌, [], ◌∷◌, ◌++◌, length, take, MatchOption, MatchResult};
+ghost use Rattle.std.specs.List.{slice_get};
 
-mod calls;
+use crate::span::lookup;
 
 #[derive(Drop)]
 pub struct Fixed<T: Copy, const N: usize> {
@@ -9,4 +10,68 @@ pub struct Fixed<T: Copy, const N: usize> {
     len: usize,
     ghost room: { length items ≡ N },
     ghost few: { len ≤ N },
+}
+
+// There is no room for one item more.
+#[derive(Clone, Copy, PartialEq, Eq, Debug)]
+pub struct Full;
+
+impl<T: Copy, const N: usize> Fixed<T, N> {
+    ghost use Rattle.store.specs.Held.{held};
+
+    // An empty list; `fill` lies in the cells that hold nothing yet.
+    pub fn new(fill: T) -> Self
+        ensures { held result ≡ [] }
+    {
+        Fixed {
+            items: [fill; N],
+            len: 0,
+        }
+    }
+
+    // One item more.
+    pub fn push(&mut self, x: T) -> Result<(), Full>
+        ensures { MatchResult result (λ _. held self.new ≡ held self.old ++ x ∷ []) (λ _. (length (held self.old) ≡ N) × (self.new ≡ self.old)) }
+    {
+        let at = self.len;
+        if at >= N {
+            return Err(Full);
+        }
+        self.items[at] = x;
+        self.len = at + 1;
+        Ok(())
+    }
+
+    pub fn count(&self) -> usize
+        ensures { result ≡ length (held self.now) }
+    {
+        self.len
+    }
+
+    pub fn as_slice(&self) -> &[T]
+        ensures { result.now ≡ held self.now }
+    {
+        &self.items[..self.len]
+    }
+
+    pub fn get(&self, i: usize) -> Option<T>
+        ensures { result ≡ slice_get (held self.now) i }
+    {
+        lookup(self.as_slice(), i)
+    }
+
+    // The last item, which is taken off.
+    pub fn pop(&mut self) -> Option<T>
+        ensures { MatchOption result ((held self.old ≡ []) × (self.new ≡ self.old)) (λ x. held self.old ≡ held self.new ++ x ∷ []) }
+    {
+        self.len = self.len.checked_sub(1)?;
+        Some(self.items[self.len])
+    }
+
+    // Keeps the first n items at most.
+    pub fn truncate(&mut self, n: usize)
+        ensures { held self.new ≡ take n (held self.old) }
+    {
+        self.len = self.len.min(n);
+    }
 }

@@ -9,7 +9,7 @@ mod store;
 mod term;
 
 pub use fault::{Culprit, Fault, Layer, Refusal};
-pub use fixed::Fixed;
+pub use fixed::{Fixed, Full};
 pub use span::{Span, cut, lookup};
 pub use store::Store;
 pub use term::{ENode, HasVar, Term, TermKind};

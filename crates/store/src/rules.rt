@@ -1,15 +1,15 @@
 // The check of a store against its rules.
 ghost use Rattle.std.specs.Prelude.{◌≡◌, ℕ, ◌<◌, ◌≤◌, map, length, Some, Decides};
-ghost use Rattle.std.specs.List.{AllByRecursion};
+ghost use Rattle.std.specs.List.{All, Any};
 ghost use Rattle.store.specs.declared.span.Span.{Span};
 ghost use Rattle.store.specs.declared.term.Term.{Term};
 ghost use Rattle.store.specs.Rules.{NamedBefore, TermRules, StoreRules, StoreChecked};
-ghost use Rattle.store.specs.Spans.{Fits, Laid};
-ghost use Rattle.store.specs.Tables.{tables, term_at, recorded};
+ghost use Rattle.store.specs.Spans.{Fits, Laid, cells_of};
+ghost use Rattle.store.specs.Tables.{tables, term_at, recorded_or};
 ghost use Rattle.store.specs.Terms.{follows, of_children, Listed, Childless};
 
 use crate::fault::{Culprit, Fault, Refusal};
-use crate::span::Span;
+use crate::span::{Span, cut};
 use crate::store::Store;
 use crate::term::{HasVar, Term, TermKind};
 
@@ -78,14 +78,9 @@ fn are_laid<T: Spanned>(items: &[T], size: usize) -> bool
 }
 
 fn all_below(kids: &[usize], t: usize) -> bool
-    ensures { Decides result (AllByRecursion (λ c. c < t) kids.now) }
+    ensures { Decides result (All (λ c. c < t) kids.now) }
 {
-    for c in kids {
-        if *c >= t {
-            return false;
-        }
-    }
-    true
+    kids.iter().all(|c| *c < t)
 }
 
 fn is_listed(kind: TermKind, symbols: usize) -> bool
@@ -117,54 +112,60 @@ impl Store<'_> {
             && self.names.len() <= MOST_NAME_BYTES
     }
 
+    fn are_names_laid(self) -> bool
+        ensures { Decides result (Laid (tables self.entry).symbols (length (tables self.entry).names)) }
+    {
+        are_laid(self.symbols, self.names.len())
+    }
+
+    fn has_text(self, symbol: Span, name: &[u8]) -> bool
+        ensures { Decides result (cells_of (tables self.entry).names symbol ≡ Some name.now) }
+    {
+        cut(self.names, symbol) == Some(name)
+    }
+
+    fn is_any_named(self, symbols: &[Span], name: &[u8]) -> bool
+        ensures { Decides result (Any (λ s. cells_of (tables self.entry).names s ≡ Some name.now) symbols.now) }
+    {
+        symbols.iter().any(|s| self.has_text(*s, name))
+    }
+
     fn is_named_before(self, symbol: usize) -> bool
         ensures { Decides result (NamedBefore (tables self.entry) symbol) }
     {
-        let Some(name) = self.name(symbol) else {
-            return false;
-        };
-        for i in 0..symbol {
-            if let Some(other) = self.name(i) {
-                if other == name {
-                    return true;
-                }
-            }
+        match self.name(symbol) {
+            Some(name) => self.is_any_named(&self.symbols[..symbol], name),
+            None => false,
         }
-        false
     }
 
     fn are_names_distinct(self) -> bool
         ensures { Decides result ((j : ℕ) → j < length (tables self.entry).symbols → NamedBefore (tables self.entry) j → ⊥) }
     {
-        for j in 0..self.symbols.len() {
-            if self.is_named_before(j) {
-                return false;
-            }
-        }
-        true
+        self.symbols
+            .iter()
+            .enumerate()
+            .all(|(j, _)| !self.is_named_before(j))
     }
 
     // What the children's records make of an application's.
-    fn of_children(self, kids: &[usize]) -> HasVar
-        ensures { result ≡ of_children (map (recorded (tables self.entry)) kids.now) }
+    fn of_children(self, kids: &[usize], missing: HasVar) -> HasVar
+        ensures { result ≡ of_children (map (recorded_or missing (tables self.entry)) kids.now) }
     {
         let mut found = HasVar::No;
         for c in kids {
-            match self.has_var(*c) {
-                HasVar::Unknown => return HasVar::Unknown,
-                HasVar::Yes => found = HasVar::Yes,
-                HasVar::No => {}
-            }
+            found = found.with(self.has_var_or(*c, missing));
         }
         found
     }
 
-    fn follows(self, kind: TermKind, kids: &[usize]) -> HasVar
-        ensures { result ≡ follows kind (map (recorded (tables self.entry)) kids.now) }
+    // What follows from a term's kind and children; a missing child counts as this record.
+    pub fn follows(self, kind: TermKind, kids: &[usize], missing: HasVar) -> HasVar
+        ensures { result ≡ follows kind (map (recorded_or missing (tables self.entry)) kids.now) }
     {
         match kind {
             TermKind::Var(_) => HasVar::Yes,
-            TermKind::App(_) => self.of_children(kids),
+            TermKind::App(_) => self.of_children(kids, missing),
             TermKind::Quant(_) => HasVar::Unknown,
         }
     }
@@ -182,29 +183,22 @@ impl Store<'_> {
         if !is_listed(term.kind, self.symbols.len()) {
             return false;
         }
-        term.has_var == self.follows(term.kind, kids)
+        term.has_var == self.follows(term.kind, kids, HasVar::Unknown)
     }
 
     fn are_terms_ruled(self) -> bool
         ensures { Decides result ((t : ℕ) (x : Term) → term_at (tables self.entry) t ≡ Some x → TermRules (tables self.entry) t x) }
     {
-        for t in 0..self.terms.len() {
-            if !self.keeps_rules(t, self.terms[t]) {
-                return false;
-            }
-        }
-        true
+        self.terms
+            .iter()
+            .enumerate()
+            .all(|(t, term)| self.keeps_rules(t, *term))
     }
 
     fn are_owners_listed(self) -> bool
-        ensures { Decides result (AllByRecursion (λ n. n.owner < length (tables self.entry).terms) (tables self.entry).nodes) }
+        ensures { Decides result (All (λ n. n.owner < length (tables self.entry).terms) (tables self.entry).nodes) }
     {
-        for node in self.nodes {
-            if node.owner >= self.terms.len() {
-                return false;
-            }
-        }
-        true
+        self.nodes.iter().all(|n| n.owner < self.terms.len())
     }
 
     fn keeps_all(self) -> bool
@@ -216,7 +210,7 @@ impl Store<'_> {
         if !are_laid(self.terms, self.cells.len()) {
             return false;
         }
-        if !are_laid(self.symbols, self.names.len()) {
+        if !self.are_names_laid() {
             return false;
         }
         if !self.are_names_distinct() {
@@ -233,8 +227,9 @@ impl Store<'_> {
         ensures { StoreChecked (tables self.entry) result }
     {
         if self.keeps_all() {
-            return Ok(());
+            Ok(())
+        } else {
+            Err(Fault::finder(Refusal::StoreBroken, Culprit::Nothing))
         }
-        Err(Fault::finder(Refusal::StoreBroken, Culprit::Nothing))
     }
 }

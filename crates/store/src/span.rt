@@ -14,22 +14,13 @@ pub struct Span {
 pub fn cut<T>(table: &[T], span: Span) -> Option<&[T]>
     ensures { option_map (λ x. x.now) result ≡ cells_of table.now span }
 {
-    let size = table.len();
-    let start = span.offset;
-    if start > size || span.len > size - start {
-        return None;
-    }
-    let end = start + span.len;
-    Some(&table[start..end])
+    let end = span.offset.checked_add(span.len)?;
+    table.get(span.offset..end)
 }
 
 // The item at a place; none where there is no such place. Every table of the project is read by this.
 pub fn lookup<T: Copy>(items: &[T], i: usize) -> Option<T>
     ensures { result ≡ slice_get items.now i }
 {
-    if i < items.len() {
-        Some(items[i])
-    } else {
-        None
-    }
+    items.get(i).copied()
 }

@@ -2,7 +2,7 @@
 ghost use Rattle.std.specs.Prelude.{◌≡◌, Some, codes, Decides};
 ghost use Rattle.std.specs.List.{slice_get};
 ghost use Rattle.std.specs.Option.{option_map};
-ghost use Rattle.store.specs.Tables.{tables, term_at, children_of, kids, owner_of, name_of, recorded, Closed};
+ghost use Rattle.store.specs.Tables.{tables, term_at, children_of, kids, owner_of, name_of, recorded, recorded_or, is_the, Closed};
 
 use crate::span::{Span, cut, lookup};
 use crate::term::{ENode, HasVar, Term};
@@ -34,10 +34,14 @@ impl<'a> Store<'a> {
     pub fn owner(self, node: usize) -> Option<usize>
         ensures { result ≡ owner_of (tables self.entry) node }
     {
-        match lookup(self.nodes, node) {
-            Some(n) => Some(n.owner),
-            None => None,
-        }
+        lookup(self.nodes, node).map(|n| n.owner)
+    }
+
+    // Whether the term owns the node.
+    pub fn is_owned(self, node: usize, term: usize) -> bool
+        ensures { result ≡ is_the (owner_of (tables self.entry) node) term }
+    {
+        self.owner(node) == Some(term)
     }
 
     pub fn name(self, symbol: usize) -> Option<&'a [u8]>
@@ -51,20 +55,21 @@ impl<'a> Store<'a> {
     pub fn is_if(self, symbol: usize) -> bool
         ensures { Decides result (name_of (tables self.entry) symbol ≡ Some (codes "if")) }
     {
-        match self.name(symbol) {
-            Some(name) => name == b"if".as_slice(),
-            None => false,
-        }
+        self.name(symbol) == Some(b"if".as_slice())
     }
 
     // What is recorded of a term's free variables; unknown for a missing term.
     pub fn has_var(self, t: usize) -> HasVar
         ensures { result ≡ recorded (tables self.entry) t }
     {
-        match self.term(t) {
-            Some(term) => term.has_var,
-            None => HasVar::Unknown,
-        }
+        self.has_var_or(t, HasVar::Unknown)
+    }
+
+    // The same, with what a missing term counts as.
+    pub(crate) fn has_var_or(self, t: usize, missing: HasVar) -> HasVar
+        ensures { result ≡ recorded_or missing (tables self.entry) t }
+    {
+        self.term(t).map_or(missing, |term| term.has_var)
     }
 
     pub fn is_closed(self, t: usize) -> bool
@@ -77,9 +82,6 @@ impl<'a> Store<'a> {
     pub fn kids(self, term: Term) -> &'a [usize]
         ensures { result.now ≡ kids (tables self.entry) term }
     {
-        match cut(self.cells, term.child_ids) {
-            Some(cells) => cells,
-            None => &[],
-        }
+        cut(self.cells, term.child_ids).unwrap_or(&[])
     }
 }

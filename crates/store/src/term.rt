@@ -1,6 +1,6 @@
 // Terms and nodes.
-ghost use Rattle.std.specs.Prelude.{◌≡◌, Decides};
-ghost use Rattle.store.specs.Terms.{CanMatch};
+ghost use Rattle.std.specs.Prelude.{◌≡◌, [], ◌∷◌, Decides};
+ghost use Rattle.store.specs.Terms.{CanMatch, of_children};
 
 use crate::span::Span;
 
@@ -17,6 +17,19 @@ pub enum HasVar {
     No,
     Yes,
     Unknown,
+}
+
+impl HasVar {
+    // What the two make of a term that holds both.
+    pub(crate) fn with(self, other: HasVar) -> HasVar
+        ensures { result ≡ of_children (self ∷ other ∷ []) }
+    {
+        match (self, other) {
+            (HasVar::Unknown, _) | (_, HasVar::Unknown) => HasVar::Unknown,
+            (HasVar::Yes, _) | (_, HasVar::Yes) => HasVar::Yes,
+            _ => HasVar::No,
+        }
+    }
 }
 
 #[derive(Clone, Copy, PartialEq, Eq, Debug)]

@@ -1,10 +1,4 @@
-use Rattle.std.proofs.lemmas.List.{map-id}
-use Rattle.std.proofs.lemmas.Bool.Decides.{not_from_Decides}
-use Rattle.store.proofs.Decided.{refused}
 use Rattle.store.proofs.store.Store.keeps_all.Goals as goal
-
-pub returns-then-not-are_laid-2 : goal.returns-then-not-are_laid-2
-returns-then-not-are_laid-2 c = refused _ (λ r. not_from_Decides _ c.are_laid-2.ensures c.if-not-are_laid-2.true (rw map-id r.names_laid))
 
 pub returns : goal.returns
 returns c =
@@ -16,7 +10,7 @@ returns c =
         few_symbols = few.3;
         few_name_bytes = few.4;
         children_laid = c.are_laid.ensures.0 c.if-not-are_laid.false;
-        names_laid = rw map-id at (c.are_laid-2.ensures.0 c.if-not-are_laid-2.false);
+        names_laid = c.are_names_laid.ensures.0 c.if-not-are_names_laid.false;
         names_distinct = c.are_names_distinct.ensures.0 c.if-not-are_names_distinct.false;
         terms_ruled = c.are_terms_ruled.ensures.0 c.if-not-are_terms_ruled.false;
         owners_listed = c.are_owners_listed.ensures.0 e;
