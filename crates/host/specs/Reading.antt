@@ -4,15 +4,12 @@ use Rattle.std.specs.List.{slice_get}
 use Rattle.store.specs.declared.term.HasVar.{HasVar}
 use Rattle.store.specs.declared.term.HasVar.TheVariants.{No, Yes, Unknown}
 use Rattle.store.specs.Tables.{Tables, owner_of, recorded}
+pub use Rattle.store.specs.Tables.{is_the}
 
 abbrev pub is_no : HasVar → Bool
 is_no No = true
 is_no Yes = false
 is_no Unknown = false
-
-abbrev pub is_the : Option ℕ → ℕ → Bool
-is_the None t = false
-is_the (Some o) t = o == t
 
 -- the node that the table has for a term, if it is owned by that term and the term is closed
 abbrev pub live_as : Tables → ℕ → Option ℕ → Option ℕ

@@ -29,10 +29,7 @@ pub struct ClassLinks<'a>(pub &'a [usize]);
 fn label(labels: &[usize], nodes: usize, n: usize) -> Option<usize>
     ensures { result ≡ label_at nodes (slice_get labels.now n) }
 {
-    match lookup(labels, n) {
-        Some(c) if c < nodes => Some(c),
-        _ => None,
-    }
+    lookup(labels, n).filter(|c| *c < nodes)
 }
 
 impl<'a> Partition for ClassNumbers<'a> {
@@ -57,10 +54,7 @@ impl<'a> Partition for ClassNumbers<'a> {
 fn link(links: &[usize], n: usize) -> usize
     ensures { result ≡ link_at n (slice_get links.now n) }
 {
-    match lookup(links, n) {
-        Some(l) if l < n => l,
-        _ => n,
-    }
+    lookup(links, n).filter(|l| *l < n).unwrap_or(n)
 }
 
 fn root(links: &[usize], n: usize) -> usize

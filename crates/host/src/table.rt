@@ -24,20 +24,13 @@ pub struct TableHost<'a, P: Partition> {
 fn position(pairs: &[Pair], ends: Pair) -> Option<usize>
     ensures { MatchOption result ((k : ℕ) → slice_get pairs.now k ≢ Some ends) (λ k. slice_get pairs.now k ≡ Some ends) }
 {
-    for k in 0..pairs.len() {
-        let pair = pairs[k];
-        if pair.from == ends.from && pair.to == ends.to {
-            return Some(k);
-        }
-    }
-    None
+    pairs.iter().position(|pair| *pair == ends)
 }
 
 fn are_ends(store: Store, ends: Pair) -> bool
     ensures { Decides result (GoodEnds (tables store.entry) ends) }
 {
-    let nodes = store.nodes.len();
-    ends.from < nodes && ends.to < nodes && ends.from != ends.to
+    ends.is_proper(store)
 }
 
 fn refused(refusal: Refusal) -> Fault
@@ -90,12 +83,7 @@ impl<'a, P: Partition> Host for TableHost<'a, P> {
 
     fn get_enode_imm(&self, store: Store, term: usize) -> Option<usize> {
         let node = lookup(self.live, term)?;
-        let owner = store.owner(node)?;
-        if owner == term && store.is_closed(term) {
-            Some(node)
-        } else {
-            None
-        }
+        (store.is_owned(node, term) && store.is_closed(term)).then_some(node)
     }
 
     fn check_eq(&self, store: Store, a: usize, b: usize) -> bool {
@@ -120,9 +108,9 @@ impl<'a, P: Partition> Host for TableHost<'a, P> {
             return Ok(k);
         }
         let k = self.made.count();
-        if !self.made.push(ends) {
-            return Err(refused(Refusal::HostFull));
+        match self.made.push(ends) {
+            Ok(()) => Ok(k),
+            Err(_) => Err(refused(Refusal::HostFull)),
         }
-        Ok(k)
     }
 }

@@ -4,7 +4,7 @@ use Rattle.std.specs.List.{slice_get}
 use Rattle.std.proofs.lemmas.Bool.{le-leb, cond-true}
 use Rattle.store.specs.declared.term.ENode.{ENode}
 use Rattle.store.specs.Tables.{Tables, owner_in}
-use Rattle.store.proofs.Decided.{some_not_none, same_some, nth_there, all_nth}
+use Rattle.store.proofs.Decided.{some_not_none, same_some, nth_there, all_at}
 use Rattle.request.specs.Asked.{Asked, parts, term_of, pairs_in}
 use Rattle.request.specs.Grounds.{Admitted}
 use Rattle.request.specs.Laws.{PartLaw, EntryLaw, AdmittedKeeps}
@@ -47,5 +47,5 @@ pub admitted_keeps : AdmittedKeeps
 admitted_keeps R ok = record {
   each_part = part_law R ok;
   each_entry = entry_law R ok;
-  owners_there = λ n t e. owner_there R.store t (slice_get R.store.nodes n) (λ x f. all_nth (λ y. y.owner < length R.store.terms) R.store.nodes n x ok.store.owners_listed f) e;
+  owners_there = λ n t e. owner_there R.store t (slice_get R.store.nodes n) (λ x f. all_at (λ y. y.owner < length R.store.terms) R.store.nodes n x ok.store.owners_listed f) e;
 }

@@ -1,6 +1,6 @@
 -- The grounds on which a request is refused, and what an admitted one keeps.
 use Rattle.std.specs.Prelude.{◌≡◌, ℕ, ◌+◌, ◌<◌, ◌≤◌, List, length, Some, Result, MatchResult}
-use Rattle.std.specs.List.{slice_get, ContainsAt, AllByRecursion}
+use Rattle.std.specs.List.{slice_get, Contains, All}
 use Rattle.store.specs.declared.fault.Culprit.{Culprit}
 use Rattle.store.specs.declared.fault.Culprit.TheVariants.{Nothing, Part, Entry, TablePair}
 use Rattle.store.specs.declared.fault.Fault.{Fault}
@@ -30,7 +30,7 @@ pub record PatternRules (R : Asked) : Type 0 where
 -- the term is a quantifier, or one stands below it
 pub data Quantified (S : Tables) : ℕ → Type 0 where
   itself : {t : ℕ} (x : Term) (q : ℕ) → term_at S t ≡ Some x → x.kind ≡ Quant q → Quantified S t
-  below : {t : ℕ} (x : Term) (c : ℕ) → term_at S t ≡ Some x → ContainsAt (kids S x) c → Quantified S c → Quantified S t
+  below : {t : ℕ} (x : Term) (c : ℕ) → term_at S t ≡ Some x → Contains (kids S x) c → Quantified S c → Quantified S t
 
 -- a part holds no quantifier, and has at most 64 places
 pub record PartRules (S : Tables) (p : ℕ) : Type 0 where
@@ -45,7 +45,7 @@ PlaceBound R s = (v : ℕ) → variable_at R.store s ≡ Some v → BoundClosed 
 
 -- every place of a part, however they are listed, is so bound
 abbrev pub PartBound : Asked → ℕ → Type 0
-PartBound R p = (ts : List ℕ) → Preorder R.store p ts → AllByRecursion (PlaceBound R) ts
+PartBound R p = (ts : List ℕ) → Preorder R.store p ts → All (PlaceBound R) ts
 
 pub record BindingRules (R : Asked) : Type 0 where
   pub few : bound_count R.bound ≤ 32

@@ -1,6 +1,6 @@
 -- What an admitted request gives to those that read it.
 use Rattle.std.specs.Prelude.{◌≡◌, ℕ, ◌<◌, ◌≤◌, List, length, Some}
-use Rattle.std.specs.List.{AllByRecursion}
+use Rattle.std.specs.List.{All}
 use Rattle.store.specs.Tables.{owner_of, Closed}
 use Rattle.request.specs.declared.kinds.Pair.{Pair}
 use Rattle.request.specs.Asked.{Asked, parts, part_at, entry_term, entry_pairs}
@@ -16,7 +16,7 @@ pub record PartLaw (R : Asked) (i : ℕ) : Type 0 where
   pub tree : Preorder R.store term places
   pub few : length places ≤ 64
   pub plain : Quantified R.store term → ⊥
-  pub bound : AllByRecursion (PlaceBound R) places
+  pub bound : All (PlaceBound R) places
 
 -- an entry has a closed term and at most 64 pairs
 pub record EntryLaw (R : Asked) (j : ℕ) : Type 0 where

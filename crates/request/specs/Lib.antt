@@ -3,3 +3,4 @@ pub mod Asked
 pub mod Places
 pub mod Grounds
 pub mod Laws
+pub mod Pairs

@@ -1,16 +1,16 @@
 // The check of a request: the first ground that holds, at what is at fault first.
 ghost use Rattle.std.specs.Prelude.{◌≡◌, ℕ, ◌<◌, length, Decides, MatchResult};
-ghost use Rattle.request.specs.Asked.{asked, part_at};
+ghost use Rattle.request.specs.Asked.{asked, part_at, BoundClosed};
 ghost use Rattle.request.specs.Grounds.{PatternRules, PartRules, PlaceBound, BindingRules, CountRules, EntryRules, PairRules, Faulted, Checked, EachPart, EachEntry, EachPair, PartBound};
 ghost use Rattle.request.specs.Laws.{AdmittedKeeps};
-ghost use Rattle.std.specs.List.{AllByRecursion};
+ghost use Rattle.std.specs.List.{All};
 ghost use Rattle.store.specs.declared.fault.Refusal.TheVariants.{BadPattern, BadPart, BadBindings, BadEntryCount, BadEntry};
 ghost use Rattle.store.specs.Rules.{StoreRules};
 
 use crate::kinds::{LogEntry, Pair};
 use crate::places::variable_at;
 use crate::request::Request;
-use store::{Culprit, Fault, HasVar, Refusal, TermKind};
+use store::{Culprit, Fault, HasVar, Refusal, TermKind, cut};
 
 const MOST_PARTS: usize = 16;
 
@@ -55,13 +55,22 @@ impl Request<'_> {
         requires { StoreRules (asked self).store }
         ensures { MatchResult result (λ _. EachPart (asked self.entry)) (Faulted (asked self.entry) BadPart) }
     {
-        let parts = self.parts();
-        for i in 0..parts.len() {
-            if !self.is_good_part(parts[i]) {
+        for (i, part) in self.parts().iter().enumerate() {
+            if !self.is_good_part(*part) {
                 return Err(Fault::finder(Refusal::BadPart, Culprit::Part(i)));
             }
         }
         Ok(())
+    }
+
+    fn is_bound_closed(self, var: usize) -> bool
+        ensures { Decides result (BoundClosed (asked self.entry) var) }
+    {
+        // A match: what `is_some_and` ensures splits no case in the proof.
+        match self.bound.bound_term(self.store, var) {
+            Some(t) => self.store.is_closed(t),
+            None => false,
+        }
     }
 
     // A place that is no variable is bound by itself.
@@ -71,27 +80,20 @@ impl Request<'_> {
         let Some(v) = variable_at(self.store, place) else {
             return true;
         };
-        match self.bound.bound_term(self.store, v) {
-            Some(t) => self.store.is_closed(t),
-            None => false,
-        }
+        self.is_bound_closed(v)
     }
 
     fn are_places_bound(self, places: &[usize]) -> bool
-        ensures { Decides result (AllByRecursion (PlaceBound (asked self.entry)) places.now) }
+        ensures { Decides result (All (PlaceBound (asked self.entry)) places.now) }
     {
-        for s in places {
-            if !self.is_place_bound(*s) {
-                return false;
-            }
-        }
-        true
+        places.iter().all(|s| self.is_place_bound(*s))
     }
 
     fn is_part_bound(self, part: usize) -> bool
         requires { PartRules (asked self).store part }
         ensures { Decides result (PartBound (asked self.entry) part) }
     {
+        // A match for the same reason.
         match self.places(part) {
             Some(places) => self.are_places_bound(places.as_slice()),
             None => false,
@@ -106,9 +108,8 @@ impl Request<'_> {
         if self.bound.count() > MOST_BINDINGS {
             return Err(fault);
         }
-        let parts = self.parts();
-        for i in 0..parts.len() {
-            if !self.is_part_bound(parts[i]) {
+        for part in self.parts() {
+            if !self.is_part_bound(*part) {
                 return Err(fault);
             }
         }
@@ -134,17 +135,14 @@ impl Request<'_> {
         if !self.store.is_closed(term) {
             return false;
         }
-        let size = self.pairs.len();
-        entry.pairs.len <= MOST_ENTRY_PAIRS
-            && entry.pairs.offset <= size
-            && entry.pairs.len <= size - entry.pairs.offset
+        entry.pairs.len <= MOST_ENTRY_PAIRS && cut(self.pairs, entry.pairs).is_some()
     }
 
     fn check_entries(self) -> Result<(), Fault>
         ensures { MatchResult result (λ _. EachEntry (asked self.entry)) (Faulted (asked self.entry) BadEntry) }
     {
-        for j in 0..self.entries.len() {
-            if !self.is_good_entry(self.entries[j]) {
+        for (j, entry) in self.entries.iter().enumerate() {
+            if !self.is_good_entry(*entry) {
                 return Err(Fault::finder(Refusal::BadEntry, Culprit::Entry(j)));
             }
         }
@@ -162,8 +160,8 @@ impl Request<'_> {
         requires { EachEntry (asked self) }
         ensures { MatchResult result (λ _. EachPair (asked self.entry)) (Faulted (asked self.entry) BadEntry) }
     {
-        for k in 0..self.pairs.len() {
-            if !self.is_good_pair(k, self.pairs[k]) {
+        for (k, pair) in self.pairs.iter().enumerate() {
+            if !self.is_good_pair(k, *pair) {
                 return Err(Fault::finder(Refusal::BadEntry, Culprit::TablePair(k)));
             }
         }

@@ -1,6 +1,7 @@
 // What a request is made of, besides its store.
 ghost use Rattle.std.specs.Prelude.{◌≡◌};
 ghost use Rattle.request.specs.Bindings.{bound_term, bound_count, bindings};
+ghost use Rattle.request.specs.Pairs.{is_proper};
 ghost use Rattle.store.specs.Tables.{tables};
 
 use store::{Span, Store, lookup};
@@ -10,6 +11,16 @@ use store::{Span, Store, lookup};
 pub struct Pair {
     pub from: usize,
     pub to: usize,
+}
+
+impl Pair {
+    // Whether both ends are nodes of the store, and two.
+    pub fn is_proper(self, store: Store) -> bool
+        ensures { result ≡ is_proper (tables store.entry) self }
+    {
+        let nodes = store.nodes.len();
+        self.from != self.to && self.from < nodes && self.to < nodes
+    }
 }
 
 // An entry of the log: the blamed node, and its pairs in the table of pairs.
@@ -48,10 +59,7 @@ impl MatchKind<'_> {
         ensures { result ≡ bound_term (tables store.entry) (bindings self.entry) var }
     {
         match self {
-            MatchKind::Terms(items) => {
-                let item = lookup(items, var)?;
-                Some(item.0)
-            }
+            MatchKind::Terms(items) => lookup(items, var).map(|item| item.0),
             MatchKind::Nodes(items) => {
                 let item = lookup(items, var)?;
                 store.owner(item.0)

@@ -1,10 +1,10 @@
 // The places of a part: the occurrences of terms in it, in preorder.
-ghost use Rattle.std.specs.Prelude.{◌≡◌, ℕ, ◌+◌, ◌<◌, List, ◌++◌, length, MatchBool};
+ghost use Rattle.std.specs.Prelude.{◌≡◌, ℕ, ◌+◌, ◌<◌, List, ◌++◌, length, MatchResult};
 ghost use Rattle.request.specs.Places.{Preorder, opened, variable_at};
 ghost use Rattle.store.specs.Held.{held};
 ghost use Rattle.store.specs.Tables.{tables};
 
-use store::{Fixed, HasVar, Store, TermKind};
+use store::{Fixed, Full, HasVar, Store, TermKind};
 
 // At most 64 places, by the terms that stand there.
 pub type Places = Fixed<usize, 64>;
@@ -32,17 +32,13 @@ pub(crate) fn variable_at(store: Store, t: usize) -> Option<usize>
     }
 }
 
-// Lists a term and all places below it; false where that would be over 64. It stops there, so shared terms cost it nothing.
-pub(crate) fn walk(store: Store, t: usize, out: &mut Places) -> bool
-    ensures { MatchBool result ((ts : List ℕ) × Preorder (tables store.entry) t ts × (held out.new ≡ held out.old ++ ts)) ((ts : List ℕ) → Preorder (tables store.entry) t ts → 64 < length (held out.old) + length ts) }
+// Lists a term and all places below it, unless that would be over 64. It stops there, so shared terms cost it nothing.
+pub(crate) fn walk(store: Store, t: usize, out: &mut Places) -> Result<(), Full>
+    ensures { MatchResult result (λ _. (ts : List ℕ) × Preorder (tables store.entry) t ts × (held out.new ≡ held out.old ++ ts)) (λ _. (ts : List ℕ) → Preorder (tables store.entry) t ts → 64 < length (held out.old) + length ts) }
 {
-    if !out.push(t) {
-        return false;
-    }
+    out.push(t)?;
     for c in opened(store, t) {
-        if !walk(store, *c, out) {
-            return false;
-        }
+        walk(store, *c, out)?;
     }
-    true
+    Ok(())
 }

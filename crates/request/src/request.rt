@@ -24,10 +24,7 @@ impl<'a> Request<'a> {
     pub fn parts(self) -> &'a [usize]
         ensures { result.now ≡ parts (asked self.entry) }
     {
-        match self.store.children(self.pattern) {
-            Some(children) => children,
-            None => &[],
-        }
+        self.store.children(self.pattern).unwrap_or(&[])
     }
 
     // The term of an entry: its node's owner.
@@ -51,10 +48,7 @@ impl<'a> Request<'a> {
         ensures { MatchOption result ((ts : List ℕ) → Preorder (asked self.entry).store term ts → 64 < length ts) (λ p. Preorder (asked self.entry).store term (held p) × (length (held p) ≤ 64)) }
     {
         let mut out = Places::new(0);
-        if walk(self.store, term, &mut out) {
-            Some(out)
-        } else {
-            None
-        }
+        walk(self.store, term, &mut out).ok()?;
+        Some(out)
     }
 }

@@ -1,7 +1,7 @@
 -- Answers of a test that is settled.
 use Rattle.std.proofs.Common.{◌≡◌, ℕ, zero, suc, ◌+◌, ◌<◌, ◌≤◌, true, false, List, [], ◌∷◌, length, get_or, take, Some, None, Decides, Option, sym, refl, subst, ⊎_elim, arith, take_all, below_more}
-use Rattle.std.specs.List.{slice_get, AllByRecursion}
-use Rattle.std.proofs.lemmas.Option.{slice_get_past}
+use Rattle.std.specs.List.{slice_get, All, AllByRecursion}
+use Rattle.std.proofs.lemmas.Option.{slice_get_past, slice_get_within, get_or_from_slice_get}
 use Rattle.std.proofs.lemmas.Bool.{false≢true, cases_lt}
 use Rattle.std.proofs.ByRecursion.{All-get_or}
 
@@ -34,6 +34,10 @@ pub all_nth : {X : Type 0} (P : X → Type 0) (xs : List X) (i : ℕ) (x : X) �
 all_nth P [] i x all e = absurd (some_not_none None x refl e)
 all_nth P (y ∷ xs) zero x all e = let same : y ≡ x = cc in subst P same all.0
 all_nth P (y ∷ xs) (suc i) x all e = all_nth P xs i x all.1 e
+
+-- what holds of all elements holds of the one that is read at a place
+pub all_at : {X : Type 0} (P : X → Type 0) (xs : List X) (i : ℕ) (x : X) → All P xs → slice_get xs i ≡ Some x → P x
+all_at P xs i x all e = subst P (get_or_from_slice_get xs i x x e) (all i x (slice_get_within xs i x e))
 
 -- what is read at a place stands inside the list
 pub nth_inside : {X : Type 0} (xs : List X) (i : ℕ) (x : X) → slice_get xs i ≡ Some x → i < length xs

@@ -1,16 +1,14 @@
 use Rattle.std.proofs.Common.{[], sym, append-nil, arith}
+use Rattle.std.proofs.lemmas.Result.{MatchResult-from_err}
 use Rattle.store.proofs.Holding.{held_long}
 use Rattle.request.specs.Places.{none}
 use Rattle.request.proofs.Walks.{longer, some_place, too_many, listed_all, one_more}
 use Rattle.request.proofs.places.+walk.Goals as goal
 
-pub returns-then-not-push : goal.returns-then-not-push
-returns-then-not-push t c = λ ts p. omega (arith, some_place p, c.if-not-push.ensures.0)
-
 pub walk-requires : goal.walk-requires
 walk-requires t c =
     let inv = c.loop-c.invariant in
-    let more = longer _ _ _ inv.0 _ c.if-not-push.ensures inv.2 in
+    let more = longer _ _ _ inv.0 _ c.in_ok-push.ensures inv.2 in
     (omega (arith, held_long c.args.out.now, held_long c.loop-c.out, c.loop-c.out.few, c.decreases), tt)
 
 pub loop-c-init : goal.loop-c-init
@@ -19,15 +17,16 @@ loop-c-init t c = ([], none, sym (append-nil _))
 pub loop-c-preserved : goal.loop-c-preserved
 loop-c-preserved t c =
     let inv = c.loop-c.invariant in
-    let more = c.if-not-walk.ensures in
+    let more = c.in_ok-walk.ensures in
     one_more _ _ _ _ inv.0 more.0 _ c.loop-c-test.true inv.1 inv.2 more.1 more.2
 
-pub returns-then-not-walk : goal.returns-then-not-walk
-returns-then-not-walk t c =
+pub returns-in_err-walk : goal.returns-in_err-walk
+returns-in_err-walk t c =
     let inv = c.loop-c.invariant in
-    too_many _ _ _ _ _ c.opened-c-items.ensures c.if-not-push.ensures _ _ inv.0 c.loop-c-test.true inv.1 inv.2 c.if-not-walk.ensures
+    MatchResult-from_err c.from_residual-in_err-walk.result _ _ c.from_residual-in_err-walk.ensures.0
+    (λ _. too_many _ _ _ _ _ c.opened-c-items.ensures c.in_ok-push.ensures _ _ inv.0 c.loop-c-test.true inv.1 inv.2 c.in_err-walk.ensures)
 
 pub returns : goal.returns
 returns t c =
     let inv = c.loop-c.invariant in
-    listed_all _ _ _ _ _ c.opened-c-items.ensures c.if-not-push.ensures _ _ inv.0 c.loop-c-test.false inv.1 inv.2
+    listed_all _ _ _ _ _ c.opened-c-items.ensures c.in_ok-push.ensures _ _ inv.0 c.loop-c-test.false inv.1 inv.2

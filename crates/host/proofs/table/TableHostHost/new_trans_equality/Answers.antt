@@ -22,18 +22,18 @@ returns-in_err-permit g c =
 pub returns-in-Some : goal.returns-in-Some
 returns-in-Some g c = known (c.are_ends.ensures.0 c.if-not-are_ends.false) c.in_ok-permit.ensures (subst (λ l. slice_get l c.in-Some.k ≡ Some c.args.ends) c.as_slice.ensures c.in-Some.ensures)
 
-pub returns : goal.returns
-returns g c =
+pub returns-in-Ok : goal.returns-in-Ok
+returns-in-Ok g c =
     let m = tabled g.P.Partition.joins (tables c.args.store) c.args.self.now in
-    let pushed = c.if-not-push.ensures in
+    let pushed = c.in-Ok.ensures in
     made_new _ m _ _ _ _ (c.are_ends.ensures.0 c.if-not-are_ends.false) c.in_ok-permit.ensures
     (λ k e. c.in_default.ensures k (ap (λ l. slice_get l k) c.as_slice.ensures ∙ e))
     (omega (arith, held_few c.push.new.self, ap length pushed ∙ length_push (held c.args.self.now.made) c.args.ends)) c.count-k.ensures (ap (with_listed m) pushed)
 
-pub returns-then-not-push : goal.returns-then-not-push
-returns-then-not-push g c =
+pub returns-in-Err : goal.returns-in-Err
+returns-in-Err g c =
     let m = tabled g.P.Partition.joins (tables c.args.store) c.args.self.now in
-    let stuck = c.if-not-push.ensures in
+    let stuck = c.in-Err.ensures in
     refused_full _ m _ _ _ _ (c.are_ends.ensures.0 c.if-not-are_ends.false) c.in_ok-permit.ensures
     (λ k e. c.in_default.ensures k (ap (λ l. slice_get l k) c.as_slice.ensures ∙ e))
-    (omega (arith, stuck.0)) c.refused-then-not-push.ensures (ap (λ l. with_listed m (held l)) stuck.1)
+    (omega (arith, stuck.0)) c.refused-in-Err.ensures (ap (λ l. with_listed m (held l)) stuck.1)

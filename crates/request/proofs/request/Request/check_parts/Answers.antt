@@ -14,12 +14,12 @@ pub loop-i-init : goal.loop-i-init
 loop-i-init c = below_none (λ _ p. PartRules (asked c.args.self).store p) _
 
 pub is_good_part-requires : goal.is_good_part-requires
-is_good_part-requires c = record { ruled = c.requires; there = part_there (asked c.args.self) c.loop-i.i _ c.requires (ap (λ l. slice_get l c.loop-i.i) (sym c.parts-parts.ensures) ∙ slice_get-get_or _ _ _ c.loop-i-test.true) }
+is_good_part-requires c = record { ruled = c.requires; there = part_there (asked c.args.self) c.loop-i.i _ c.requires (ap (λ l. slice_get l c.loop-i.i) (sym c.parts-part-items.ensures) ∙ slice_get-get_or _ _ _ c.loop-i-test.true) }
 
 pub returns-then-not-is_good_part : goal.returns-then-not-is_good_part
 returns-then-not-is_good_part c =
     let R = asked c.args.self in
-    let same = c.parts-parts.ensures in
+    let same = c.parts-part-items.ensures in
     subst (Faulted R BadPart) (sym c.finder.ensures)
     (at_part R c.loop-i.i _ (subst (λ l. Below (λ _ p. PartRules R.store p) l c.loop-i.i) same c.loop-i.invariant) (ap (λ l. slice_get l c.loop-i.i) (sym same) ∙ slice_get-get_or _ _ _ c.loop-i-test.true) (not_from_Decides _ c.is_good_part.ensures c.if-not-is_good_part.true))
 
@@ -27,4 +27,4 @@ pub loop-i-preserved : goal.loop-i-preserved
 loop-i-preserved c = below_next (λ _ p. PartRules (asked c.args.self).store p) _ _ _ (slice_get-get_or _ _ _ c.loop-i-test.true) (c.is_good_part.ensures.0 c.if-not-is_good_part.false) c.loop-i.invariant
 
 pub returns : goal.returns
-returns c = subst (Each (λ _ p. PartRules (asked c.args.self).store p)) c.parts-parts.ensures (below_all (λ _ p. PartRules (asked c.args.self).store p) _ _ c.loop-i-test.false c.loop-i.invariant)
+returns c = subst (Each (λ _ p. PartRules (asked c.args.self).store p)) c.parts-part-items.ensures (below_all (λ _ p. PartRules (asked c.args.self).store p) _ _ c.loop-i-test.false c.loop-i.invariant)
