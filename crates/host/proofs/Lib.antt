@@ -1,3 +1,2 @@
 pub mod Roots
-pub mod Pairs
 pub mod Making

@@ -1,12 +1,13 @@
 -- What a list of a part's places decides.
 use Rattle.std.proofs.Common.{◌≡◌, ℕ, ◌<◌, ◌≤◌, Bool, List, [], length, is_some, Some, None, Decides, Option, unwrap_or, refl, subst, arith, MatchOption}
 use Rattle.std.specs.List.{slice_get, All}
+use Rattle.std.proofs.lemmas.Option.{slice_get_within}
 use Rattle.store.specs.declared.term.Term.{Term}
 use Rattle.store.specs.Rules.{StoreRules}
 use Rattle.store.specs.declared.fixed.Fixed.{Fixed}
 use Rattle.store.specs.Held.{held}
 use Rattle.store.specs.Tables.{Tables, term_at, children_in, kids}
-use Rattle.store.proofs.Decided.{some_not_none, passed, refused, all_at, nth_inside}
+use Rattle.store.proofs.Decided.{some_not_none, passed, refused, all_at}
 use Rattle.request.specs.Asked.{Asked, part_at}
 use Rattle.request.specs.Grounds.{Quantified, PartRules, PlaceBound, PartBound}
 use Rattle.request.specs.Places.{Preorder}
@@ -26,7 +27,7 @@ bound_decided R t ts r p d = (λ e us q. subst (All (PlaceBound R)) (unique p q)
 
 child_there : (S : Tables) (t i p : ℕ) (o : Option Term) → StoreRules S → term_at S t ≡ o → slice_get (unwrap_or (children_in S o) []) i ≡ Some p → p < length S.terms
 child_there S t i p None ruled e f = absurd (some_not_none None p refl f)
-child_there S t i p (Some x) ruled e f = omega (arith, nth_inside S.terms t x e, all_at (λ c. c < t) (kids S x) i p (ruled.terms_ruled t x e).children_below f)
+child_there S t i p (Some x) ruled e f = omega (arith, slice_get_within S.terms t x e, all_at (λ c. c < t) (kids S x) i p (ruled.terms_ruled t x e).children_below f)
 
 -- a part is a term of the store
 pub part_there : (R : Asked) (i p : ℕ) → StoreRules R.store → part_at R i ≡ Some p → p < length R.store.terms

@@ -1,6 +1,6 @@
 -- In a store that keeps its rules, a term is recorded as unknown exactly if it holds a quantifier.
 use Rattle.std.proofs.Common.{◌≡◌, ℕ, zero, suc, ◌+◌, ◌<◌, Bool, true, false, cond, leb, List, [], ◌∷◌, map, length, get_or, take, drop, Some, None, unwrap_or, sym, refl, ap, ◌∙◌, subst, ⊎_elim, arith}
-use Rattle.std.specs.List.{Contains}
+use Rattle.std.specs.List.{Contains, list_any}
 use Rattle.std.proofs.lemmas.Bool.{or_cases, or_left, or_right, true≢false}
 use Rattle.store.specs.declared.term.HasVar.{HasVar}
 use Rattle.store.specs.declared.term.HasVar.TheVariants.{No, Yes, Unknown}
@@ -9,22 +9,22 @@ use Rattle.store.specs.declared.term.TermKind.{TermKind}
 use Rattle.store.specs.declared.term.TermKind.TheVariants.{Var, App, Quant}
 use Rattle.store.specs.Rules.{StoreRules}
 use Rattle.store.specs.Tables.{Tables, term_at, kids, recorded, record_or}
-use Rattle.store.specs.Terms.{some, is_unknown, is_yes, follows, Childless}
+use Rattle.store.specs.Terms.{is_unknown, is_yes, follows, Childless}
 use Rattle.store.proofs.Decided.{nth_there}
 use Rattle.request.specs.Grounds.{Quantified, itself, below}
 
 -- some child passes the test, and which
-pub some_has : {X Y : Type 0} (p : Y → Bool) (f : X → Y) (xs : List X) → some p (map f xs) ≡ true → (x : X) × Contains xs x × (p (f x) ≡ true)
+pub some_has : {X Y : Type 0} (p : Y → Bool) (f : X → Y) (xs : List X) → list_any p (map f xs) ≡ true → (x : X) × Contains xs x × (p (f x) ≡ true)
 some_has p f [] e = absurd (true≢false (sym e))
 some_has p f (x ∷ xs) e = ⊎_elim
     (λ here. (x, (zero, omega arith, refl), here))
     (λ later. let r = some_has p f xs later in (r.0, (suc r.1.0, omega (arith, r.1.1), r.1.2), r.2))
-    (or_cases (p (f x)) (some p (map f xs)) e)
+    (or_cases (p (f x)) (list_any p (map f xs)) e)
 
-pub has_some : {X Y : Type 0} (p : Y → Bool) (f : X → Y) (xs : List X) (k : ℕ) (x : X) → k < length xs → get_or xs k x ≡ x → p (f x) ≡ true → some p (map f xs) ≡ true
+pub has_some : {X Y : Type 0} (p : Y → Bool) (f : X → Y) (xs : List X) (k : ℕ) (x : X) → k < length xs → get_or xs k x ≡ x → p (f x) ≡ true → list_any p (map f xs) ≡ true
 has_some p f [] k x h at e = absurd (omega arith)
-has_some p f (y ∷ xs) zero x h at e = or_left (p (f y)) (some p (map f xs)) (ap (λ z. p (f z)) at ∙ e)
-has_some p f (y ∷ xs) (suc k) x h at e = or_right (p (f y)) (some p (map f xs)) (has_some p f xs k x (omega arith) at e)
+has_some p f (y ∷ xs) zero x h at e = or_left (p (f y)) (list_any p (map f xs)) (ap (λ z. p (f z)) at ∙ e)
+has_some p f (y ∷ xs) (suc k) x h at e = or_right (p (f y)) (list_any p (map f xs)) (has_some p f xs k x (omega arith) at e)
 
 is_unknown_true : (m : HasVar) → is_unknown m ≡ true → m ≡ Unknown
 is_unknown_true No e = absurd (true≢false (sym e))
@@ -51,7 +51,7 @@ module _ (S : Tables) (ruled : StoreRules S) where
 
   from_child : (k : TermKind) (x : Term) (c : ℕ) → x.kind ≡ k → Childless k x.child_ids.len → Contains (kids S x) c → recorded S c ≡ Unknown → follows k (map (recorded S) (kids S x)) ≡ Unknown
   from_child (Var v) x c e less has u = absurd (let none = ap length (no_cells (leb (x.child_ids.offset + x.child_ids.len) (length S.cells)) (drop x.child_ids.offset S.cells) x.child_ids.len less) in omega (arith, has.1))
-  from_child (App f) x c e less has u = of_known (some is_unknown (map (recorded S) (kids S x))) (some is_yes (map (recorded S) (kids S x))) (has_some is_unknown (recorded S) (kids S x) has.0 c has.1 has.2 (ap is_unknown u))
+  from_child (App f) x c e less has u = of_known (list_any is_unknown (map (recorded S) (kids S x))) (list_any is_yes (map (recorded S) (kids S x))) (has_some is_unknown (recorded S) (kids S x) has.0 c has.1 has.2 (ap is_unknown u))
   from_child (Quant q) x c e less has u = refl
 
   pub quantified_unknown : {t : ℕ} → Quantified S t → recorded S t ≡ Unknown
@@ -63,7 +63,7 @@ module _ (S : Tables) (ruled : StoreRules S) where
   by_kind t x (Var v) l e f u lower = absurd (true≢false (ap is_unknown (sym u)))
   by_kind t x (Quant q) l e f u lower = itself x q e f
   by_kind t x (App g) l e f u lower =
-      let got = some_has is_unknown (recorded S) (kids S x) (of_unknown (some is_unknown (map (recorded S) (kids S x))) (some is_yes (map (recorded S) (kids S x))) u) in
+      let got = some_has is_unknown (recorded S) (kids S x) (of_unknown (list_any is_unknown (map (recorded S) (kids S x))) (list_any is_yes (map (recorded S) (kids S x))) u) in
       let less = subst (λ c. c < t) got.1.2 ((ruled.terms_ruled t x e).children_below got.1.0 got.0 got.1.1) in
       below x got.0 e got.1 (lower got.0 less (omega arith) (is_unknown_true (recorded S got.0) got.2))
 

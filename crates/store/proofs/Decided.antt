@@ -1,9 +1,8 @@
 -- Answers of a test that is settled.
-use Rattle.std.proofs.Common.{◌≡◌, ℕ, zero, suc, ◌+◌, ◌<◌, ◌≤◌, true, false, List, [], ◌∷◌, length, get_or, take, Some, None, Decides, Option, sym, refl, subst, ⊎_elim, arith, take_all, below_more}
-use Rattle.std.specs.List.{slice_get, All, AllByRecursion}
+use Rattle.std.proofs.Common.{◌≡◌, ℕ, zero, suc, ◌+◌, ◌<◌, ◌≤◌, true, false, List, [], ◌∷◌, length, Some, None, Decides, Option, sym, refl, subst, ⊎_elim, arith, below_more}
+use Rattle.std.specs.List.{slice_get, All}
 use Rattle.std.proofs.lemmas.Option.{slice_get_past, slice_get_within, get_or_from_slice_get}
 use Rattle.std.proofs.lemmas.Bool.{false≢true, cases_lt}
-use Rattle.std.proofs.ByRecursion.{All-get_or}
 
 -- an option is one thing
 pub some_not_none : {X : Type 0} (o : Option X) (x : X) → None ≡ o → o ≡ Some x → ⊥
@@ -18,32 +17,9 @@ passed Q q = (λ _. q, λ _. refl)
 pub refused : (Q : Type 0) → (Q → ⊥) → Decides false Q
 refused Q n = (λ e. absurd (false≢true e), λ q. absurd (n q))
 
--- a walk over a list that was refused at one element, and one that passed them all
-pub refused_at : {X : Type 0} (P : X → Type 0) (xs : List X) (i : ℕ) (d : X) → i < length xs → (P (get_or xs i d) → ⊥) → Decides false (AllByRecursion P xs)
-refused_at P xs i d h n = refused (AllByRecursion P xs) (λ all. n (All-get_or P xs i d h all))
-
-pub passed_all : {X : Type 0} (P : X → Type 0) (xs : List X) (i : ℕ) → length xs ≤ i → AllByRecursion P (take i xs) → Decides true (AllByRecursion P xs)
-passed_all P xs i h all = passed (AllByRecursion P xs) (subst (AllByRecursion P) (take_all i xs h) all)
-
--- what holds of each element, by its place
-pub all_from_nth : {X : Type 0} (P : X → Type 0) (xs : List X) → ((i : ℕ) (x : X) → slice_get xs i ≡ Some x → P x) → AllByRecursion P xs
-all_from_nth P [] h = tt
-all_from_nth P (x ∷ xs) h = (h zero x refl, all_from_nth P xs (λ i y e. h (suc i) y e))
-
-pub all_nth : {X : Type 0} (P : X → Type 0) (xs : List X) (i : ℕ) (x : X) → AllByRecursion P xs → slice_get xs i ≡ Some x → P x
-all_nth P [] i x all e = absurd (some_not_none None x refl e)
-all_nth P (y ∷ xs) zero x all e = let same : y ≡ x = cc in subst P same all.0
-all_nth P (y ∷ xs) (suc i) x all e = all_nth P xs i x all.1 e
-
 -- what holds of all elements holds of the one that is read at a place
 pub all_at : {X : Type 0} (P : X → Type 0) (xs : List X) (i : ℕ) (x : X) → All P xs → slice_get xs i ≡ Some x → P x
 all_at P xs i x all e = subst P (get_or_from_slice_get xs i x x e) (all i x (slice_get_within xs i x e))
-
--- what is read at a place stands inside the list
-pub nth_inside : {X : Type 0} (xs : List X) (i : ℕ) (x : X) → slice_get xs i ≡ Some x → i < length xs
-nth_inside [] i x e = absurd (some_not_none None x refl e)
-nth_inside (y ∷ xs) zero x e = omega arith
-nth_inside (y ∷ xs) (suc i) x e = omega (arith, nth_inside xs i x e)
 
 pub nth_there : {X : Type 0} (xs : List X) (i : ℕ) → i < length xs → (x : X) × (slice_get xs i ≡ Some x)
 nth_there [] i h = absurd (omega arith)

@@ -1,13 +1,12 @@
 -- Spans read in one pass: the last offset and the furthest end so far are all that the rest has to be held to.
 use Rattle.std.proofs.Common.{◌≡◌, ℕ, zero, suc, ◌+◌, ◌<◌, ◌≤◌, cond, ltb, List, [], ◌∷◌, map, length, get_or, drop, Some, None, sym, refl, ap, ◌∙◌, subst, ⊎_elim, arith}
 use mathlib.Core.Path.{transport}
-use Rattle.std.specs.List.{slice_get, AllByRecursion}
-use Rattle.std.proofs.ByRecursion.{All-weaker}
+use Rattle.std.specs.List.{slice_get}
 use Rattle.std.proofs.lemmas.List.{drop_more, drop_all}
 use Rattle.std.proofs.lemmas.Bool.{cases_lt, lt-ltb, le-ltb, cond-true, cond-false}
 use Rattle.store.specs.declared.span.Span.{Span}
 use Rattle.store.specs.Spans.{Laid, Covers, Fits}
-use Rattle.store.proofs.Decided.{some_not_none, all_from_nth, all_nth}
+use Rattle.store.proofs.Decided.{some_not_none, same_some}
 
 -- how far the spans reach with one more
 abbrev pub further : Span → ℕ → ℕ
@@ -26,6 +25,10 @@ Reads size last end (s ∷ ss) = Fits size last end s × Reads size s.offset (fu
 record Ahead (last end : ℕ) (s : Span) : Type 0 where
   after : last ≤ s.offset
   clear : 0 < s.len → end ≤ s.offset
+
+-- each of the spans is ahead
+abbrev EachAhead : ℕ → ℕ → List Span → Type 0
+EachAhead last end ss = (i : ℕ) (u : Span) → slice_get ss i ≡ Some u → Ahead last end u
 
 tail_laid : (s : Span) (ss : List Span) (size : ℕ) → Laid (s ∷ ss) size → Laid ss size
 tail_laid s ss size l = record {
@@ -49,17 +52,16 @@ behind s ss size end l i u e old =
           (cases_lt 0 s.len);
     }
 
-reads_from : (size last end : ℕ) (ss : List Span) → Laid ss size → AllByRecursion (Ahead last end) ss → Reads size last end ss
+reads_from : (size last end : ℕ) (ss : List Span) → Laid ss size → EachAhead last end ss → Reads size last end ss
 reads_from size last end [] l h = tt
 reads_from size last end (s ∷ ss) l h = (
-  record { after = h.0.after; inside = l.inside zero s refl; clear = h.0.clear },
-  reads_from size s.offset (further s end) ss (tail_laid s ss size l)
-      (all_from_nth (Ahead s.offset (further s end)) ss (λ i u e. behind s ss size end l i u e (all_nth (Ahead last end) ss i u h.1 e).clear)),
+  record { after = (h zero s refl).after; inside = l.inside zero s refl; clear = (h zero s refl).clear },
+  reads_from size s.offset (further s end) ss (tail_laid s ss size l) (λ i u e. behind s ss size end l i u e (h (suc i) u e).clear),
 )
 
 -- an empty reach stands before every span
 pub laid_reads : (size : ℕ) (ss : List Span) → Laid ss size → Reads size 0 0 ss
-laid_reads size ss l = reads_from size 0 0 ss l (all_from_nth (Ahead 0 0) ss (λ i u e. record { after = omega arith; clear = λ _. omega arith }))
+laid_reads size ss l = reads_from size 0 0 ss l (λ i u e. record { after = omega arith; clear = λ _. omega arith })
 
 nearer : (size last end : ℕ) (s u : Span) → Fits size last end s → Ahead s.offset (further s end) u → Ahead last end u
 nearer size last end s u f a = record {
@@ -70,12 +72,10 @@ nearer size last end s u f a = record {
       (cases_lt 0 s.len);
 }
 
-ahead_from : (size last end : ℕ) (ss : List Span) → Reads size last end ss → AllByRecursion (Ahead last end) ss
-ahead_from size last end [] r = tt
-ahead_from size last end (s ∷ ss) r = (
-  record { after = r.0.after; clear = r.0.clear },
-  All-weaker (Ahead s.offset (further s end)) (Ahead last end) (λ u a. nearer size last end s u r.0 a) ss (ahead_from size s.offset (further s end) ss r.1),
-)
+ahead_from : (size last end : ℕ) (ss : List Span) → Reads size last end ss → EachAhead last end ss
+ahead_from size last end [] r i u e = absurd (some_not_none None u refl e)
+ahead_from size last end (s ∷ ss) r zero u e = subst (Ahead last end) (same_some _ s u refl e) (record { after = r.0.after; clear = r.0.clear })
+ahead_from size last end (s ∷ ss) r (suc i) u e = nearer size last end s u r.0 (ahead_from size s.offset (further s end) ss r.1 i u e)
 
 -- no cell of the first span is one of a span behind it
 clear_of : (s u : Span) (end c : ℕ) → Ahead s.offset (further s end) u → Covers s c → Covers u c → ⊥
@@ -96,11 +96,11 @@ reads_laid size last end (s ∷ ss) r =
     record {
       inside = elim [ zero ↦ λ u e. let same : s ≡ u = cc in subst (λ v. v.offset + v.len ≤ size) same r.0.inside | suc i ↦ λ u e. rest.inside i u e ];
       sorted = elim [
-        | zero ↦ elim [ zero ↦ λ u v h e f. absurd (omega arith) | suc j ↦ λ u v h e f. let same : s ≡ u = cc in subst (λ w. w.offset ≤ v.offset) same (all_nth (Ahead s.offset (further s end)) ss j v ahead f).after ]
+        | zero ↦ elim [ zero ↦ λ u v h e f. absurd (omega arith) | suc j ↦ λ u v h e f. let same : s ≡ u = cc in subst (λ w. w.offset ≤ v.offset) same (ahead j v f).after ]
         | suc i ↦ elim [ zero ↦ λ u v h e f. absurd (omega arith) | suc j ↦ λ u v h e f. rest.sorted i j u v (omega arith) e f ]
       ];
       apart = elim [
-        | zero ↦ elim [ zero ↦ λ u v c h e f p q. absurd (omega arith) | suc j ↦ λ u v c h e f p q. let same : u ≡ s = cc in clear_of s v end c (all_nth (Ahead s.offset (further s end)) ss j v ahead f) (subst (λ w. Covers w c) same p) q ]
+        | zero ↦ elim [ zero ↦ λ u v c h e f p q. absurd (omega arith) | suc j ↦ λ u v c h e f p q. let same : u ≡ s = cc in clear_of s v end c (ahead j v f) (subst (λ w. Covers w c) same p) q ]
         | suc i ↦ elim [ zero ↦ λ u v c h e f p q. absurd (omega arith) | suc j ↦ λ u v c h e f p q. rest.apart i j u v c (omega arith) e f p q ]
       ];
     }

@@ -1,5 +1,5 @@
 -- What is recorded of an application, child by child: what was found so far counts as one more child.
-use Rattle.std.proofs.Common.{◌≡◌, List, [], ◌∷◌, map, refl, sym, ◌∙◌}
+use Rattle.std.proofs.Common.{◌≡◌, List, [], ◌∷◌, map, refl, ◌∙◌}
 use Rattle.std.specs.List.{fold}
 use Rattle.store.specs.declared.term.HasVar.{HasVar}
 use Rattle.store.specs.declared.term.HasVar.TheVariants.{No, Yes, Unknown}

@@ -1,13 +1,13 @@
 -- A symbol that has the name of a later one, found among those before it.
-use Rattle.std.proofs.Common.{◌≡◌, ℕ, ◌<◌, ◌≤◌, Bool, List, length, get_or, take, Some, None, Decides, Option, sym, refl, ap, ◌∙◌, subst, arith}
+use Rattle.std.proofs.Common.{◌≡◌, ℕ, ◌<◌, Bool, List, length, take, Some, None, Decides, Option, sym, refl, ap, ◌∙◌, arith}
 use Rattle.std.specs.List.{slice_get, Any}
 use Rattle.std.proofs.lemmas.List.{get_or-take, length-take-le}
-use Rattle.std.proofs.lemmas.Option.{slice_get-get_or, get_or_from_slice_get}
+use Rattle.std.proofs.lemmas.Option.{slice_get-get_or, get_or_from_slice_get, slice_get_within}
 use Rattle.store.specs.declared.span.Span.{Span}
 use Rattle.store.specs.Rules.{NamedBefore}
 use Rattle.store.specs.Spans.{cells_of}
 use Rattle.store.specs.Tables.{Tables, name_of, name_in}
-use Rattle.store.proofs.Decided.{nth_there, nth_inside, same_some, some_not_none}
+use Rattle.store.proofs.Decided.{nth_there, some_not_none}
 
 abbrev pub HasText : Tables → List ℕ → Span → Type 0
 HasText S name s = cells_of S.names s ≡ Some name
@@ -18,7 +18,7 @@ there S (Some s) name e = (s, refl)
 
 module _ (S : Tables) (j : ℕ) (name : List ℕ) (here : name_of S j ≡ Some name) where
   inside : j < length S.symbols
-  inside = let read = there S (slice_get S.symbols j) name here in nth_inside S.symbols j read.0 read.1
+  inside = let read = there S (slice_get S.symbols j) name here in slice_get_within S.symbols j read.0 read.1
 
   among_earlier : Any (HasText S name) (take j S.symbols) → NamedBefore S j
   among_earlier a =

@@ -1,5 +1,6 @@
 -- What is said of terms by themselves, and what a term's record of free variables follows from.
-use Rattle.std.specs.Prelude.{◌≡◌, ℕ, ◌<◌, Bool, true, false, cond, ◌||◌, List, [], ◌∷◌}
+use Rattle.std.specs.Prelude.{◌≡◌, ℕ, ◌<◌, Bool, true, false, cond, List}
+use Rattle.std.specs.List.{list_any}
 use Rattle.store.specs.declared.term.Term.{Term}
 use Rattle.store.specs.declared.term.TermKind.{TermKind}
 use Rattle.store.specs.declared.term.TermKind.TheVariants.{Var, App, Quant}
@@ -10,10 +11,6 @@ use Rattle.store.specs.declared.term.HasVar.TheVariants.{No, Yes, Unknown}
 pub record CanMatch (a b : Term) : Type 0 where
   pub kinds : a.kind ≡ b.kind
   pub arity : a.child_ids.len ≡ b.child_ids.len
-
-abbrev pub some : {X : Type 0} → (X → Bool) → List X → Bool
-some p [] = false
-some p (x ∷ xs) = p x || some p xs
 
 abbrev pub is_unknown : HasVar → Bool
 is_unknown No = false
@@ -27,7 +24,7 @@ is_yes Unknown = false
 
 -- an application: unknown if a child is, else yes if a child is, else no
 abbrev pub of_children : List HasVar → HasVar
-of_children ms = cond (some is_unknown ms) Unknown (cond (some is_yes ms) Yes No)
+of_children ms = cond (list_any is_unknown ms) Unknown (cond (list_any is_yes ms) Yes No)
 
 -- by kind: yes for a variable, unknown for a quantifier
 abbrev pub follows : TermKind → List HasVar → HasVar

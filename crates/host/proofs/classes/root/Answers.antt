@@ -1,10 +1,7 @@
-use Rattle.std.proofs.Common.{◌<◌, ◌≤◌, sym, refl, ap, ◌∙◌, subst, arith}
+use Rattle.std.proofs.Common.{◌<◌, ◌≤◌, sym, ap, ◌∙◌, subst, arith}
 use Rattle.host.specs.Reading.{root}
 use Rattle.host.proofs.Roots.{root_next, root_end}
 use Rattle.host.proofs.classes.root.Goals as goal
-
-pub loop-next-init : goal.loop-next-init
-loop-next-init c = (refl, c.link-next.ensures)
 
 pub loop-next-preserved : goal.loop-next-preserved
 loop-next-preserved c =

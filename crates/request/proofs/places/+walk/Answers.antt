@@ -2,7 +2,7 @@ use Rattle.std.proofs.Common.{[], sym, append-nil, arith}
 use Rattle.std.proofs.lemmas.Result.{MatchResult-from_err}
 use Rattle.store.proofs.Holding.{held_long}
 use Rattle.request.specs.Places.{none}
-use Rattle.request.proofs.Walks.{longer, some_place, too_many, listed_all, one_more}
+use Rattle.request.proofs.Walks.{longer, too_many, listed_all, one_more}
 use Rattle.request.proofs.places.+walk.Goals as goal
 
 pub walk-requires : goal.walk-requires

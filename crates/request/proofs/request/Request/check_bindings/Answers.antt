@@ -3,7 +3,7 @@ use Rattle.std.specs.List.{slice_get}
 use Rattle.std.proofs.lemmas.Option.{slice_get-get_or}
 use Rattle.std.proofs.lemmas.Bool.Decides.{not_from_Decides}
 use Rattle.store.specs.declared.fault.Refusal.TheVariants.{BadBindings}
-use Rattle.store.proofs.Decided.{Each, below_none, below_next, below_all}
+use Rattle.store.proofs.Decided.{Each, below_next, below_all}
 use Rattle.store.specs.Refusals.{names_nothing}
 use Rattle.request.specs.Asked.{asked}
 use Rattle.request.specs.Grounds.{PartBound, Faulted, bad_bindings}
@@ -12,9 +12,6 @@ use Rattle.request.proofs.request.Request.check_bindings.Goals as goal
 
 pub returns-then-count-gt-MOST_BINDINGS : goal.returns-then-count-gt-MOST_BINDINGS
 returns-then-count-gt-MOST_BINDINGS c = subst (Faulted (asked c.args.self) BadBindings) (sym c.finder-fault.ensures) (alone _ BadBindings names_nothing (bad_bindings (λ r. omega (arith, r.few, c.count.ensures))))
-
-pub loop-part-init : goal.loop-part-init
-loop-part-init c = below_none (λ _ p. PartBound (asked c.args.self) p) _
 
 pub is_part_bound-requires : goal.is_part_bound-requires
 is_part_bound-requires c = c.requires c.loop-part.part-index _ (ap (λ l. slice_get l c.loop-part.part-index) (sym c.parts-part-items.ensures) ∙ slice_get-get_or _ _ _ c.loop-part-test.true)

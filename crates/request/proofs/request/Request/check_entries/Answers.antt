@@ -2,14 +2,11 @@ use Rattle.std.proofs.Common.{sym, subst}
 use Rattle.std.proofs.lemmas.Option.{slice_get-get_or}
 use Rattle.std.proofs.lemmas.Bool.Decides.{not_from_Decides}
 use Rattle.store.specs.declared.fault.Refusal.TheVariants.{BadEntry}
-use Rattle.store.proofs.Decided.{below_none, below_next, below_all}
+use Rattle.store.proofs.Decided.{below_next, below_all}
 use Rattle.request.specs.Asked.{asked}
 use Rattle.request.specs.Grounds.{EntryRules, Faulted}
 use Rattle.request.proofs.Faults.{at_entry}
 use Rattle.request.proofs.request.Request.check_entries.Goals as goal
-
-pub loop-j-init : goal.loop-j-init
-loop-j-init c = below_none (λ _ e. EntryRules (asked c.args.self) e) _
 
 pub returns-then-not-is_good_entry : goal.returns-then-not-is_good_entry
 returns-then-not-is_good_entry c = subst (Faulted (asked c.args.self) BadEntry) (sym c.finder.ensures) (at_entry _ _ _ c.loop-j.invariant (slice_get-get_or _ _ _ c.loop-j-test.true) (not_from_Decides _ c.is_good_entry.ensures c.if-not-is_good_entry.true))

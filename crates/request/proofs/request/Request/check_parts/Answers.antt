@@ -3,15 +3,12 @@ use Rattle.std.specs.List.{slice_get}
 use Rattle.std.proofs.lemmas.Option.{slice_get-get_or}
 use Rattle.std.proofs.lemmas.Bool.Decides.{not_from_Decides}
 use Rattle.store.specs.declared.fault.Refusal.TheVariants.{BadPart}
-use Rattle.store.proofs.Decided.{Below, Each, below_none, below_next, below_all}
+use Rattle.store.proofs.Decided.{Below, Each, below_next, below_all}
 use Rattle.request.specs.Asked.{asked}
 use Rattle.request.specs.Grounds.{PartRules, Faulted}
 use Rattle.request.proofs.Faults.{at_part}
 use Rattle.request.proofs.Parts.{part_there}
 use Rattle.request.proofs.request.Request.check_parts.Goals as goal
-
-pub loop-i-init : goal.loop-i-init
-loop-i-init c = below_none (λ _ p. PartRules (asked c.args.self).store p) _
 
 pub is_good_part-requires : goal.is_good_part-requires
 is_good_part-requires c = record { ruled = c.requires; there = part_there (asked c.args.self) c.loop-i.i _ c.requires (ap (λ l. slice_get l c.loop-i.i) (sym c.parts-part-items.ensures) ∙ slice_get-get_or _ _ _ c.loop-i-test.true) }

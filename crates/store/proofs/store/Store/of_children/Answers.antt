@@ -1,13 +1,9 @@
-use Rattle.std.proofs.Common.{ap, ◌∙◌, map, take_all, rules}
-use Rattle.std.proofs.lemmas.List.Sums.{fold_more}
+use Rattle.std.proofs.Common.{ap, ◌∙◌, map, take_all}
 use Rattle.store.specs.declared.term.HasVar.TheVariants.{No}
 use Rattle.store.specs.Tables.{tables, recorded_or}
 use Rattle.store.specs.Terms.{of_children}
 use Rattle.store.proofs.Marks.{folded}
 use Rattle.store.proofs.store.Store.of_children.Goals as goal
-
-pub loop-c-preserved : goal.loop-c-preserved
-loop-c-preserved c = search (rules, fold_more)
 
 pub returns : goal.returns
 returns c =
