@@ -1,11 +1,7 @@
 // The rules of a store for spans and names.
-use crate::tables::Tables;
-use crate::verdict::show_store;
-use store::{HasVar, Span, TermKind};
-
-const fn span(offset: usize, len: usize) -> Span {
-    Span { offset, len }
-}
+use crate::tables::{Tables, span};
+use crate::verdict::show;
+use store::{HasVar, Span, Term, TermKind};
 
 // A constant, and an application for each span, over four cells that hold the constant.
 fn children(rt: &HostRuntime, what: &str, spans: &[Span]) -> anyhow::Result<()> {
@@ -13,11 +9,14 @@ fn children(rt: &HostRuntime, what: &str, spans: &[Span]) -> anyhow::Result<()> 
     t.symbol(b"a")?;
     t.app(HasVar::No, &[])?;
     t.cells.resize(4, 0)?;
-    for s in spans {
-        t.term_at(TermKind::App(0), HasVar::No, s.offset, s.len)?;
+    for child_ids in spans {
+        t.terms.push(Term {
+            kind: TermKind::App(0),
+            has_var: HasVar::No,
+            child_ids: *child_ids,
+        })?;
     }
-    show_store(rt, what, &t)?;
-    Ok(())
+    show(rt, what, t.store().check())
 }
 
 // A symbol for each span of the text.
@@ -25,8 +24,7 @@ fn names(rt: &HostRuntime, what: &str, text: &[u8], spans: &[Span]) -> anyhow::R
     let mut t = Tables::new(rt.alloc());
     t.names.extend_from_slice(text)?;
     t.symbols.extend_from_slice(spans)?;
-    show_store(rt, what, &t)?;
-    Ok(())
+    show(rt, what, t.store().check())
 }
 
 fn children_inside(rt: &HostRuntime) -> anyhow::Result<()> {

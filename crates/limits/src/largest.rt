@@ -1,8 +1,9 @@
 // The largest request that is admitted, and how long its check takes.
-use crate::tables::{Bindings, Tables};
+use crate::tables::{Bindings, Tables, span};
 use crate::verdict::show;
-use request::Pair;
+use request::{Pair, TermIdx};
 use std::alloc::{AllocError, Global};
+use std::array;
 use std::time::Instant;
 use store::{ENode, HasVar, TermKind};
 
@@ -18,7 +19,6 @@ fn add_symbols(t: &mut Tables) -> Result<(), AllocError> {
 fn add_variables(t: &mut Tables) -> Result<(), AllocError> {
     for number in 0..32 {
         t.var(number)?;
-        t.bind(0)?;
     }
     Ok(())
 }
@@ -33,13 +33,13 @@ fn add_chain(t: &mut Tables) -> Result<usize, AllocError> {
 
 // 16 parts of 64 places each: eight are 64 deep, eight have 63 children.
 fn add_parts(t: &mut Tables) -> Result<[usize; 16], AllocError> {
-    let mut parts = [0; 16];
-    let variables = [32; 63];
-    for i in 0..8usize {
-        parts[i] = add_chain(t)?;
-        parts[i + 8] = t.app(HasVar::Yes, &variables)?;
-    }
-    Ok(parts)
+    array::try_from_fn(|i| {
+        if i < 8 {
+            add_chain(t)
+        } else {
+            t.app(HasVar::Yes, &[32; 63])
+        }
+    })
 }
 
 // Closed applications until there are 4,096 terms, with all the cells that are left.
@@ -55,7 +55,7 @@ fn add_closed(t: &mut Tables) -> Result<(), AllocError> {
 // 64 entries with 64 pairs each.
 fn add_log(t: &mut Tables) -> Result<(), AllocError> {
     for j in 0..64 {
-        t.entry(4095, j * 64, 64)?;
+        t.entry(4095, span(j * 64, 64))?;
     }
     t.pairs.resize(
         4096,
@@ -71,6 +71,7 @@ fn largest(heap: Global) -> Result<Tables, AllocError> {
     add_symbols(&mut t)?;
     t.term(TermKind::App(4095), HasVar::No, &[])?;
     add_variables(&mut t)?;
+    t.bound = Bindings::ToTerms(vec![in heap; TermIdx(0); 32]?);
     add_log(&mut t)?;
     let parts = add_parts(&mut t)?;
     t.ask(HasVar::Yes, &parts)?;
@@ -89,10 +90,7 @@ fn sizes(rt: &HostRuntime, t: &Tables) -> anyhow::Result<()> {
         "the largest store: {terms} terms, {nodes} nodes, {cells} cells, {symbols} symbols, {bytes} bytes"
     )?;
     let parts = t.request().parts().len();
-    let bindings = match &t.bound {
-        Bindings::ToTerms(items) => items.len(),
-        Bindings::ToNodes(items) => items.len(),
-    };
+    let bindings = t.request().bound.count();
     let entries = t.entries.len();
     let pairs = t.pairs.len();
     println!(rt;
@@ -106,7 +104,7 @@ pub fn run(rt: &HostRuntime) -> anyhow::Result<()> {
     let t = largest(rt.alloc())?;
     sizes(rt, &t)?;
     let start = Instant::now(rt)?;
-    show(rt, "the largest request", &t)?;
+    show(rt, "the largest request", t.request().check())?;
     let millis = start.elapsed(rt)?.as_millis();
     eprintln!(rt; "the largest request was checked in {millis} ms")?;
     Ok(())

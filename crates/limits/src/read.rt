@@ -1,6 +1,7 @@
 // What is read off a request and a store.
-use crate::tables::{Tables, small};
-use store::{HasVar, Span, Term, TermKind};
+use crate::tables::{Bindings, Tables, small, span};
+use request::ENodeIdx;
+use store::{HasVar, Term, TermKind};
 
 fn print_places(rt: &HostRuntime, what: &str, t: &Tables, term: usize) -> anyhow::Result<()> {
     match t.request().places(term) {
@@ -28,11 +29,9 @@ fn places(rt: &HostRuntime) -> anyhow::Result<()> {
 }
 
 fn bound(rt: &HostRuntime) -> anyhow::Result<()> {
-    let mut t = small(rt.alloc())?;
-    t.bind_nodes(rt.alloc());
-    t.bind(2)?;
-    t.bind(3)?;
-    t.bind(9)?;
+    let heap = rt.alloc();
+    let mut t = small(heap)?;
+    t.bound = Bindings::ToNodes(vec![in heap; ENodeIdx(2), ENodeIdx(3), ENodeIdx(9)]?);
     for variable in 0..4 {
         let term = t.request().bound.bound_term(t.store(), variable);
         println!(rt; "variable {variable} by nodes 2 3 9: {term:?}")?;
@@ -45,14 +44,11 @@ fn logged(rt: &HostRuntime) -> anyhow::Result<()> {
     t.pair(0, 1)?;
     t.pair(1, 2)?;
     t.pair(2, 3)?;
-    t.entry(2, 1, 2)?;
-    t.entry(9, 2, 2)?;
+    t.entry(2, span(1, 2))?;
+    t.entry(9, span(2, 2))?;
     for entry in 0..4 {
         let term = t.request().entry_term(entry);
-        let count = match t.request().entry_pairs(entry) {
-            Some(pairs) => Some(pairs.len()),
-            None => None,
-        };
+        let count = t.request().entry_pairs(entry).map(|pairs| pairs.len());
         println!(rt; "entry {entry}: term {term:?}, pairs {count:?}")?;
     }
     Ok(())
@@ -75,39 +71,31 @@ const fn closed(kind: TermKind, offset: usize, len: usize) -> Term {
     Term {
         kind,
         has_var: HasVar::No,
-        child_ids: Span { offset, len },
+        child_ids: span(offset, len),
     }
-}
-
-fn matched(rt: &HostRuntime, what: &str, a: Term, b: Term) -> anyhow::Result<()> {
-    let answer = a.can_match(b);
-    println!(rt; "{what}: {answer}")?;
-    Ok(())
 }
 
 fn matches(rt: &HostRuntime) -> anyhow::Result<()> {
     let h = closed(TermKind::App(1), 0, 2);
-    matched(rt, "h(0, 0) and h(1, 1)", h, closed(TermKind::App(1), 2, 2))?;
-    matched(rt, "h(0, 0) and h(0)", h, closed(TermKind::App(1), 0, 1))?;
-    matched(rt, "h(0, 0) and g(0, 0)", h, closed(TermKind::App(2), 0, 2))?;
-    matched(
-        rt,
-        "h(0, 0) and quantifier 1 over 0, 0",
-        h,
-        closed(TermKind::Quant(1), 0, 2),
-    )?;
-    matched(
-        rt,
-        "variables 1 and 1",
-        closed(TermKind::Var(1), 0, 0),
-        closed(TermKind::Var(1), 0, 0),
-    )?;
-    matched(
-        rt,
-        "variables 1 and 2",
-        closed(TermKind::Var(1), 0, 0),
-        closed(TermKind::Var(2), 0, 0),
-    )
+    for (what, other) in [
+        ("h(1, 1)", closed(TermKind::App(1), 2, 2)),
+        ("h(0)", closed(TermKind::App(1), 0, 1)),
+        ("g(0, 0)", closed(TermKind::App(2), 0, 2)),
+        ("quantifier 1 over 0, 0", closed(TermKind::Quant(1), 0, 2)),
+    ] {
+        let answer = h.can_match(other);
+        println!(rt; "h(0, 0) and {what}: {answer}")?;
+    }
+    Ok(())
+}
+
+fn variables_match(rt: &HostRuntime) -> anyhow::Result<()> {
+    let variable = closed(TermKind::Var(1), 0, 0);
+    for number in [1, 2] {
+        let answer = variable.can_match(closed(TermKind::Var(number), 0, 0));
+        println!(rt; "variables 1 and {number}: {answer}")?;
+    }
+    Ok(())
 }
 
 pub fn run(rt: &HostRuntime) -> anyhow::Result<()> {
@@ -115,5 +103,6 @@ pub fn run(rt: &HostRuntime) -> anyhow::Result<()> {
     bound(rt)?;
     logged(rt)?;
     named(rt)?;
-    matches(rt)
+    matches(rt)?;
+    variables_match(rt)
 }

@@ -1,6 +1,6 @@
 // The rules of a store for each term and node.
 use crate::tables::{Tables, small};
-use crate::verdict::{Verdict, show_store};
+use crate::verdict::show;
 use store::{HasVar, TermKind};
 
 // The small store has terms 0 to 4, so the new term is number 5.
@@ -13,8 +13,7 @@ fn with_term(
 ) -> anyhow::Result<()> {
     let mut t = small(rt.alloc())?;
     t.term(kind, has_var, children)?;
-    show_store(rt, what, &t)?;
-    Ok(())
+    show(rt, what, t.store().check())
 }
 
 fn children_below(rt: &HostRuntime) -> anyhow::Result<()> {
@@ -36,14 +35,6 @@ fn kinds(rt: &HostRuntime) -> anyhow::Result<()> {
     with_term(rt, "symbol 1 of 1", TermKind::App(1), HasVar::No, &[])
 }
 
-fn record_name(has_var: HasVar) -> &'static str {
-    match has_var {
-        HasVar::No => "no",
-        HasVar::Yes => "yes",
-        HasVar::Unknown => "unknown",
-    }
-}
-
 // The same term with each of the three records.
 fn records_of(
     rt: &HostRuntime,
@@ -51,12 +42,18 @@ fn records_of(
     kind: TermKind,
     children: &[usize],
 ) -> anyhow::Result<()> {
-    for has_var in [HasVar::No, HasVar::Yes, HasVar::Unknown] {
+    for (record, has_var) in [
+        ("no", HasVar::No),
+        ("yes", HasVar::Yes),
+        ("unknown", HasVar::Unknown),
+    ] {
         let mut t = small(rt.alloc())?;
         t.term(kind, has_var, children)?;
-        let record = record_name(has_var);
-        let verdict = Verdict(t.store().check());
-        println!(rt; "{what}, recorded {record}: {verdict}")?;
+        show(
+            rt,
+            format_args!("{what}, recorded {record}"),
+            t.store().check(),
+        )?;
     }
     Ok(())
 }
@@ -76,14 +73,14 @@ fn records(rt: &HostRuntime) -> anyhow::Result<()> {
 fn owners(rt: &HostRuntime) -> anyhow::Result<()> {
     let mut t = small(rt.alloc())?;
     t.node(4)?;
-    show_store(rt, "owner 4 of terms 0 to 4", &t)?;
+    show(rt, "owner 4 of terms 0 to 4", t.store().check())?;
     t.node(5)?;
-    show_store(rt, "owner 5 of terms 0 to 4", &t)?;
-    Ok(())
+    show(rt, "owner 5 of terms 0 to 4", t.store().check())
 }
 
 pub fn run(rt: &HostRuntime) -> anyhow::Result<()> {
-    show_store(rt, "an empty store", &Tables::new(rt.alloc()))?;
+    let empty = Tables::new(rt.alloc());
+    show(rt, "an empty store", empty.store().check())?;
     children_below(rt)?;
     kinds(rt)?;
     records(rt)?;

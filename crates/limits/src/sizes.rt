@@ -1,46 +1,17 @@
 // Both sides of each limit.
-use crate::tables::{Tables, small};
+use crate::tables::{Bindings, Tables, span};
 use crate::verdict::show_at;
-use request::{LogEntry, Pair};
-use std::alloc::AllocError;
-use store::{ENode, HasVar, Span, Term, TermKind};
+use request::{ENodeIdx, LogEntry, Pair, TermIdx};
+use std::alloc::{AllocError, Global};
+use store::{ENode, HasVar, Term, TermKind};
 
-fn terms(rt: &HostRuntime) -> anyhow::Result<()> {
-    for n in [4096, 4097] {
-        let mut t = small(rt.alloc())?;
-        let child_ids = Span {
-            offset: t.cells.len(),
-            len: 0,
-        };
-        t.terms.resize(
-            n,
-            Term {
-                kind: TermKind::App(0),
-                has_var: HasVar::No,
-                child_ids,
-            },
-        )?;
-        show_at(rt, "terms", n, &t)?;
-    }
-    Ok(())
-}
-
-fn nodes(rt: &HostRuntime) -> anyhow::Result<()> {
-    for n in [4096, 4097] {
-        let mut t = small(rt.alloc())?;
-        t.nodes.resize(n, ENode { owner: 0 })?;
-        show_at(rt, "nodes", n, &t)?;
-    }
-    Ok(())
-}
-
-fn cells(rt: &HostRuntime) -> anyhow::Result<()> {
-    for n in [16384, 16385] {
-        let mut t = small(rt.alloc())?;
-        t.cells.resize(n, 0)?;
-        show_at(rt, "cells", n, &t)?;
-    }
-    Ok(())
+fn add_constants(t: &mut Tables, n: usize) -> Result<(), AllocError> {
+    let constant = Term {
+        kind: TermKind::App(0),
+        has_var: HasVar::No,
+        child_ids: span(t.cells.len(), 0),
+    };
+    t.terms.resize(n, constant)
 }
 
 fn add_symbols(t: &mut Tables, n: usize) -> Result<(), AllocError> {
@@ -50,129 +21,81 @@ fn add_symbols(t: &mut Tables, n: usize) -> Result<(), AllocError> {
     Ok(())
 }
 
-fn symbols(rt: &HostRuntime) -> anyhow::Result<()> {
-    for n in [4096, 4097] {
-        let mut t = small(rt.alloc())?;
-        add_symbols(&mut t, n)?;
-        show_at(rt, "symbols", n, &t)?;
-    }
-    Ok(())
-}
-
-fn name_bytes(rt: &HostRuntime) -> anyhow::Result<()> {
-    for n in [65536, 65537] {
-        let mut t = small(rt.alloc())?;
-        t.names.resize(n, b'a')?;
-        show_at(rt, "name bytes", n, &t)?;
-    }
-    Ok(())
-}
-
-fn parts(rt: &HostRuntime) -> anyhow::Result<()> {
-    for n in [0, 1, 16, 17] {
-        let mut t = small(rt.alloc())?;
-        let constants = vec![in rt.alloc(); 0; n]?;
-        t.ask(HasVar::No, constants.as_slice())?;
-        show_at(rt, "parts", n, &t)?;
-    }
-    Ok(())
+fn store_sizes(rt: &HostRuntime) -> anyhow::Result<()> {
+    show_at(rt, "terms", &[4096, 4097], add_constants)?;
+    show_at(rt, "nodes", &[4096, 4097], |t, n| {
+        t.nodes.resize(n, ENode { owner: 0 })
+    })?;
+    show_at(rt, "cells", &[16384, 16385], |t, n| t.cells.resize(n, 0))?;
+    show_at(rt, "symbols", &[4096, 4097], add_symbols)?;
+    show_at(rt, "name bytes", &[65536, 65537], |t, n| {
+        t.names.resize(n, b'a')
+    })
 }
 
 // Variable 0 under applications to one child each, n places in all.
-fn chain(t: &mut Tables, n: usize) -> Result<usize, AllocError> {
+fn ask_chain(t: &mut Tables, n: usize) -> Result<(), AllocError> {
     let mut top = t.var(0)?;
     for _ in 1..n {
         top = t.app(HasVar::Yes, &[top])?;
     }
-    Ok(top)
+    t.ask(HasVar::Yes, &[top])
 }
 
-fn chains(rt: &HostRuntime) -> anyhow::Result<()> {
-    for n in [1, 64, 65] {
-        let mut t = small(rt.alloc())?;
-        let part = chain(&mut t, n)?;
-        t.ask(HasVar::Yes, &[part])?;
-        show_at(rt, "a part so deep:", n, &t)?;
-    }
-    Ok(())
+// An application to variable 0 so many times.
+fn ask_wide(heap: Global, t: &mut Tables, n: usize) -> Result<(), AllocError> {
+    let variables = vec![in heap; 1; n]?;
+    let part = t.app(HasVar::Yes, variables.as_slice())?;
+    t.ask(HasVar::Yes, &[part])
 }
 
-fn wide(rt: &HostRuntime) -> anyhow::Result<()> {
-    for n in [63, 64] {
-        let mut t = small(rt.alloc())?;
-        let variables = vec![in rt.alloc(); 1; n]?;
-        let part = t.app(HasVar::Yes, variables.as_slice())?;
-        t.ask(HasVar::Yes, &[part])?;
-        show_at(rt, "a part so wide:", n, &t)?;
-    }
-    Ok(())
+fn part_sizes(rt: &HostRuntime) -> anyhow::Result<()> {
+    let heap = rt.alloc();
+    show_at(rt, "parts", &[0, 1, 16, 17], |t, n| {
+        let constants = vec![in heap; 0; n]?;
+        t.ask(HasVar::No, constants.as_slice())
+    })?;
+    show_at(rt, "a part so deep:", &[1, 64, 65], ask_chain)?;
+    show_at(
+        rt,
+        "a part so wide:",
+        &[63, 64],
+        |t, n| ask_wide(heap, t, n),
+    )
 }
 
-fn bindings_to_terms(rt: &HostRuntime) -> anyhow::Result<()> {
-    for n in [32, 33] {
-        let mut t = small(rt.alloc())?;
-        t.bind_terms(rt.alloc());
-        t.bind_times(0, n)?;
-        show_at(rt, "bindings to terms", n, &t)?;
-    }
-    Ok(())
+fn binding_counts(rt: &HostRuntime) -> anyhow::Result<()> {
+    let heap = rt.alloc();
+    show_at(rt, "bindings to terms", &[32, 33], |t, n| {
+        t.bound = Bindings::ToTerms(vec![in heap; TermIdx(0); n]?);
+        Ok(())
+    })?;
+    show_at(rt, "bindings to nodes", &[32, 33], |t, n| {
+        t.bound = Bindings::ToNodes(vec![in heap; ENodeIdx(0); n]?);
+        Ok(())
+    })
 }
 
-fn bindings_to_nodes(rt: &HostRuntime) -> anyhow::Result<()> {
-    for n in [32, 33] {
-        let mut t = small(rt.alloc())?;
-        t.bind_nodes(rt.alloc());
-        t.bind_times(0, n)?;
-        show_at(rt, "bindings to nodes", n, &t)?;
-    }
-    Ok(())
-}
-
-const NO_PAIRS: LogEntry = LogEntry {
-    node: 0,
-    pairs: Span { offset: 0, len: 0 },
-};
-
-fn entries(rt: &HostRuntime) -> anyhow::Result<()> {
-    for n in [0, 1, 64, 65] {
-        let mut t = small(rt.alloc())?;
-        t.entries.resize(n, NO_PAIRS)?;
-        show_at(rt, "entries", n, &t)?;
-    }
-    Ok(())
-}
-
-fn entry_pairs(rt: &HostRuntime) -> anyhow::Result<()> {
-    for n in [64, 65] {
-        let mut t = small(rt.alloc())?;
+fn log_sizes(rt: &HostRuntime) -> anyhow::Result<()> {
+    show_at(rt, "entries", &[0, 1, 64, 65], |t, n| {
+        let without_pairs = LogEntry {
+            node: 0,
+            pairs: span(0, 0),
+        };
+        t.entries.resize(n, without_pairs)
+    })?;
+    show_at(rt, "pairs of entry 1:", &[64, 65], |t, n| {
         t.pairs.resize(100, Pair { from: 0, to: 1 })?;
-        t.entry(0, 10, n)?;
-        show_at(rt, "pairs of entry 1:", n, &t)?;
-    }
-    Ok(())
-}
-
-fn table_pairs(rt: &HostRuntime) -> anyhow::Result<()> {
-    for n in [4096, 4097] {
-        let mut t = small(rt.alloc())?;
-        t.pairs.resize(n, Pair { from: 0, to: 1 })?;
-        show_at(rt, "pairs of the table:", n, &t)?;
-    }
-    Ok(())
+        t.entry(0, span(10, n))
+    })?;
+    show_at(rt, "pairs of the table:", &[4096, 4097], |t, n| {
+        t.pairs.resize(n, Pair { from: 0, to: 1 })
+    })
 }
 
 pub fn run(rt: &HostRuntime) -> anyhow::Result<()> {
-    terms(rt)?;
-    nodes(rt)?;
-    cells(rt)?;
-    symbols(rt)?;
-    name_bytes(rt)?;
-    parts(rt)?;
-    chains(rt)?;
-    wide(rt)?;
-    bindings_to_terms(rt)?;
-    bindings_to_nodes(rt)?;
-    entries(rt)?;
-    entry_pairs(rt)?;
-    table_pairs(rt)
+    store_sizes(rt)?;
+    part_sizes(rt)?;
+    binding_counts(rt)?;
+    log_sizes(rt)
 }

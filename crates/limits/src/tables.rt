@@ -3,10 +3,24 @@ use request::{ENodeIdx, LogEntry, MatchKind, Pair, Request, TermIdx};
 use std::alloc::{AllocError, Global};
 use store::{ENode, HasVar, Span, Store, Term, TermKind};
 
+pub const fn span(offset: usize, len: usize) -> Span {
+    Span { offset, len }
+}
+
+// A request only borrows its bindings, so the tables hold them in an enum of their own.
 #[derive(Drop)]
 pub enum Bindings {
     ToTerms(Vec<TermIdx>),
     ToNodes(Vec<ENodeIdx>),
+}
+
+impl Bindings {
+    fn as_kind(&self) -> MatchKind<'_> {
+        match self {
+            Bindings::ToTerms(items) => MatchKind::Terms(items.as_slice()),
+            Bindings::ToNodes(items) => MatchKind::Nodes(items.as_slice()),
+        }
+    }
 }
 
 #[derive(Drop)]
@@ -39,12 +53,9 @@ impl Tables {
 
     pub fn symbol(&mut self, name: &[u8]) -> Result<usize, AllocError> {
         let symbol = self.symbols.len();
-        let offset = self.names.len();
+        let place = span(self.names.len(), name.len());
         self.names.extend_from_slice(name)?;
-        self.symbols.push(Span {
-            offset,
-            len: name.len(),
-        })?;
+        self.symbols.push(place)?;
         Ok(symbol)
     }
 
@@ -55,24 +66,13 @@ impl Tables {
         has_var: HasVar,
         children: &[usize],
     ) -> Result<usize, AllocError> {
-        let offset = self.cells.len();
-        self.cells.extend_from_slice(children)?;
-        self.term_at(kind, has_var, offset, children.len())
-    }
-
-    // A term with this record, its children in cells that may be another's.
-    pub fn term_at(
-        &mut self,
-        kind: TermKind,
-        has_var: HasVar,
-        offset: usize,
-        len: usize,
-    ) -> Result<usize, AllocError> {
         let term = self.terms.len();
+        let child_ids = span(self.cells.len(), children.len());
+        self.cells.extend_from_slice(children)?;
         self.terms.push(Term {
             kind,
             has_var,
-            child_ids: Span { offset, len },
+            child_ids,
         })?;
         Ok(term)
     }
@@ -99,38 +99,12 @@ impl Tables {
     pub fn ask(&mut self, has_var: HasVar, parts: &[usize]) -> Result<(), AllocError> {
         self.pattern = self.app(has_var, parts)?;
         for _ in self.entries.len()..parts.len() {
-            self.entry(0, 0, 0)?;
+            self.entry(0, span(0, 0))?;
         }
         Ok(())
     }
 
-    pub fn bind(&mut self, number: usize) -> Result<(), AllocError> {
-        match &mut self.bound {
-            Bindings::ToTerms(items) => items.push(TermIdx(number))?,
-            Bindings::ToNodes(items) => items.push(ENodeIdx(number))?,
-        }
-        Ok(())
-    }
-
-    pub fn bind_times(&mut self, number: usize, times: usize) -> Result<(), AllocError> {
-        for _ in 0..times {
-            self.bind(number)?;
-        }
-        Ok(())
-    }
-
-    // From now on the variables are bound to terms, so far none.
-    pub fn bind_terms(&mut self, heap: Global) {
-        self.bound = Bindings::ToTerms(Vec::new(heap));
-    }
-
-    // From now on the variables are bound to nodes, so far none.
-    pub fn bind_nodes(&mut self, heap: Global) {
-        self.bound = Bindings::ToNodes(Vec::new(heap));
-    }
-
-    pub fn entry(&mut self, node: usize, offset: usize, len: usize) -> Result<(), AllocError> {
-        let pairs = Span { offset, len };
+    pub fn entry(&mut self, node: usize, pairs: Span) -> Result<(), AllocError> {
         self.entries.push(LogEntry { node, pairs })?;
         Ok(())
     }
@@ -151,14 +125,10 @@ impl Tables {
     }
 
     pub fn request(&self) -> Request<'_> {
-        let bound = match &self.bound {
-            Bindings::ToTerms(items) => MatchKind::Terms(items.as_slice()),
-            Bindings::ToNodes(items) => MatchKind::Nodes(items.as_slice()),
-        };
         Request {
             store: self.store(),
             pattern: self.pattern,
-            bound,
+            bound: self.bound.as_kind(),
             entries: self.entries.as_slice(),
             pairs: self.pairs.as_slice(),
         }
@@ -180,6 +150,6 @@ pub fn small(heap: Global) -> Result<Tables, AllocError> {
     t.node(constant)?;
     t.node(variable)?;
     t.node(quantifier)?;
-    t.bind(constant)?;
+    t.bound = Bindings::ToTerms(vec![in heap; TermIdx(constant)]?);
     Ok(t)
 }

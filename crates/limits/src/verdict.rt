@@ -1,10 +1,11 @@
-// What a check answered, as text, and the lines that show it.
-use crate::tables::Tables;
-use std::{fmt, io};
+// The lines that say what a check answered.
+use crate::tables::{Tables, small};
+use std::alloc::AllocError;
+use std::fmt;
 use store::{Culprit, Fault, Layer};
 
 #[derive(Clone, Copy)]
-pub struct Verdict(pub Result<(), Fault>);
+struct Shown(Fault);
 
 fn layer_name(layer: Layer) -> &'static str {
     match layer {
@@ -14,11 +15,9 @@ fn layer_name(layer: Layer) -> &'static str {
     }
 }
 
-impl fmt::Display for Verdict {
+impl fmt::Display for Shown {
     fn fmt<W: fmt::Write>(&self, f: &mut fmt::Formatter<W>) -> fmt::Result {
-        let Err(fault) = self.0 else {
-            return f.write_str("admitted");
-        };
+        let fault = self.0;
         let number = fault.refusal.number();
         let layer = layer_name(fault.layer);
         write!(f, "refused {number} {layer}")?;
@@ -35,19 +34,47 @@ impl fmt::Display for Verdict {
     }
 }
 
-// The answer to a whole request.
-pub fn show(rt: &HostRuntime, what: &str, t: &Tables) -> io::Result<()> {
-    let verdict = Verdict(t.request().check());
-    println!(rt; "{what}: {verdict}")
+pub fn show(
+    rt: &HostRuntime,
+    what: impl fmt::Display + Drop,
+    answer: Result<(), Fault>,
+) -> anyhow::Result<()> {
+    match answer {
+        Ok(()) => println!(rt; "{what}: admitted")?,
+        Err(fault) => {
+            let fault = Shown(fault);
+            println!(rt; "{what}: {fault}")?;
+        }
+    }
+    Ok(())
 }
 
-pub fn show_at(rt: &HostRuntime, what: &str, n: usize, t: &Tables) -> io::Result<()> {
-    let verdict = Verdict(t.request().check());
-    println!(rt; "{what} {n}: {verdict}")
+// The answer to the small request with this change.
+pub fn show_changed<F: FnOnce(&mut Tables) -> Result<(), AllocError> + Drop>(
+    rt: &HostRuntime,
+    what: impl fmt::Display + Drop,
+    change: F,
+) -> anyhow::Result<()>
+    requires { F.IsAlwaysCallable change }
+{
+    let mut t = small(rt.alloc())?;
+    change(&mut t)?;
+    show(rt, what, t.request().check())
 }
 
-// The answer to a store alone.
-pub fn show_store(rt: &HostRuntime, what: &str, t: &Tables) -> io::Result<()> {
-    let verdict = Verdict(t.store().check());
-    println!(rt; "{what}: {verdict}")
+// The answers to the small request with this change at each of these numbers.
+pub fn show_at<F: Fn(&mut Tables, usize) -> Result<(), AllocError> + Drop>(
+    rt: &HostRuntime,
+    what: &str,
+    numbers: &[usize],
+    change: F,
+) -> anyhow::Result<()>
+    requires { F.IsAlwaysCallable change }
+{
+    for &n in numbers {
+        let mut t = small(rt.alloc())?;
+        change(&mut t, n)?;
+        show(rt, format_args!("{what} {n}"), t.request().check())?;
+    }
+    Ok(())
 }
