@@ -47,7 +47,7 @@ fn add_closed(t: &mut Tables) -> Result<(), AllocError> {
     let closed = [0; 5];
     for _ in t.terms.len()..4096 {
         let count = 16384usize.saturating_sub(t.cells.len()).min(5);
-        t.app(HasVar::No, &closed[0..count])?;
+        t.app(HasVar::No, &closed[..count])?;
     }
     Ok(())
 }

@@ -46,10 +46,7 @@ fn pairs(rt: &HostRuntime) -> anyhow::Result<()> {
     t.pair(0, 4)?;
     show(rt, "pair 1 to a missing node", t.request().check())?;
     t.pair(4, 0)?;
-    show(rt, "pairs 1 and 2 bad", t.request().check())
-}
-
-fn pair_from_nowhere(rt: &HostRuntime) -> anyhow::Result<()> {
+    show(rt, "pairs 1 and 2 bad", t.request().check())?;
     show_changed(rt, "pair 0 from a missing node", |t| t.pair(4, 0))
 }
 
@@ -105,7 +102,6 @@ pub fn run(rt: &HostRuntime) -> anyhow::Result<()> {
     entries(rt)?;
     first_entry(rt)?;
     pairs(rt)?;
-    pair_from_nowhere(rt)?;
     pair_past_the_limit(rt)?;
     several(rt)
 }

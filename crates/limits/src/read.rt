@@ -1,7 +1,7 @@
 // What is read off a request and a store.
 use crate::tables::{Bindings, Tables, small, span};
 use request::ENodeIdx;
-use store::{HasVar, Term, TermKind};
+use store::{HasVar, Span, Term, TermKind};
 
 fn print_places(rt: &HostRuntime, what: &str, t: &Tables, term: usize) -> anyhow::Result<()> {
     match t.request().places(term) {
@@ -67,21 +67,24 @@ fn named(rt: &HostRuntime) -> anyhow::Result<()> {
     Ok(())
 }
 
-const fn closed(kind: TermKind, offset: usize, len: usize) -> Term {
+const fn closed(kind: TermKind, child_ids: Span) -> Term {
     Term {
         kind,
         has_var: HasVar::No,
-        child_ids: span(offset, len),
+        child_ids,
     }
 }
 
 fn matches(rt: &HostRuntime) -> anyhow::Result<()> {
-    let h = closed(TermKind::App(1), 0, 2);
+    let h = closed(TermKind::App(1), span(0, 2));
     for (what, other) in [
-        ("h(1, 1)", closed(TermKind::App(1), 2, 2)),
-        ("h(0)", closed(TermKind::App(1), 0, 1)),
-        ("g(0, 0)", closed(TermKind::App(2), 0, 2)),
-        ("quantifier 1 over 0, 0", closed(TermKind::Quant(1), 0, 2)),
+        ("h(1, 1)", closed(TermKind::App(1), span(2, 2))),
+        ("h(0)", closed(TermKind::App(1), span(0, 1))),
+        ("g(0, 0)", closed(TermKind::App(2), span(0, 2))),
+        (
+            "quantifier 1 over 0, 0",
+            closed(TermKind::Quant(1), span(0, 2)),
+        ),
     ] {
         let answer = h.can_match(other);
         println!(rt; "h(0, 0) and {what}: {answer}")?;
@@ -90,9 +93,9 @@ fn matches(rt: &HostRuntime) -> anyhow::Result<()> {
 }
 
 fn variables_match(rt: &HostRuntime) -> anyhow::Result<()> {
-    let variable = closed(TermKind::Var(1), 0, 0);
+    let variable = closed(TermKind::Var(1), span(0, 0));
     for number in [1, 2] {
-        let answer = variable.can_match(closed(TermKind::Var(number), 0, 0));
+        let answer = variable.can_match(closed(TermKind::Var(number), span(0, 0)));
         println!(rt; "variables 1 and {number}: {answer}")?;
     }
     Ok(())

@@ -51,12 +51,11 @@ impl Tables {
         }
     }
 
-    pub fn symbol(&mut self, name: &[u8]) -> Result<usize, AllocError> {
-        let symbol = self.symbols.len();
+    pub fn symbol(&mut self, name: &[u8]) -> Result<(), AllocError> {
         let place = span(self.names.len(), name.len());
         self.names.extend_from_slice(name)?;
         self.symbols.push(place)?;
-        Ok(symbol)
+        Ok(())
     }
 
     // A term with this record, its children in cells of their own.
@@ -89,10 +88,9 @@ impl Tables {
         self.term(TermKind::App(0), has_var, children)
     }
 
-    pub fn node(&mut self, owner: usize) -> Result<usize, AllocError> {
-        let node = self.nodes.len();
+    pub fn node(&mut self, owner: usize) -> Result<(), AllocError> {
         self.nodes.push(ENode { owner })?;
-        Ok(node)
+        Ok(())
     }
 
     // A new pattern with these parts, and entries enough for them.

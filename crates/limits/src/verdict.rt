@@ -2,37 +2,7 @@
 use crate::tables::{Tables, small};
 use std::alloc::AllocError;
 use std::fmt;
-use store::{Culprit, Fault, Layer};
-
-#[derive(Clone, Copy)]
-struct Shown(Fault);
-
-fn layer_name(layer: Layer) -> &'static str {
-    match layer {
-        Layer::Finder => "finder",
-        Layer::Round => "round",
-        Layer::Host => "host",
-    }
-}
-
-impl fmt::Display for Shown {
-    fn fmt<W: fmt::Write>(&self, f: &mut fmt::Formatter<W>) -> fmt::Result {
-        let fault = self.0;
-        let number = fault.refusal.number();
-        let layer = layer_name(fault.layer);
-        write!(f, "refused {number} {layer}")?;
-        match fault.culprit {
-            Culprit::Nothing => Ok(()),
-            Culprit::Part(i) => write!(f, " part {i}"),
-            Culprit::Entry(j) => write!(f, " entry {j}"),
-            Culprit::TablePair(k) => write!(f, " pair {k}"),
-            Culprit::FoundPair { part, entry, pair } => write!(
-                f,
-                " part {part} entry {entry} pair {pair}"
-            ),
-        }
-    }
-}
+use store::Fault;
 
 pub fn show(
     rt: &HostRuntime,
@@ -41,10 +11,7 @@ pub fn show(
 ) -> anyhow::Result<()> {
     match answer {
         Ok(()) => println!(rt; "{what}: admitted")?,
-        Err(fault) => {
-            let fault = Shown(fault);
-            println!(rt; "{what}: {fault}")?;
-        }
+        Err(fault) => println!(rt; "{what}: {fault}")?,
     }
     Ok(())
 }
