@@ -2,7 +2,6 @@
 use crate::tables::{Bindings, Tables, small};
 use crate::verdict::{show, show_at, show_changed};
 use request::{ENodeIdx, TermIdx};
-use std::alloc::AllocError;
 use store::HasVar;
 
 fn patterns(rt: &HostRuntime) -> anyhow::Result<()> {
@@ -47,32 +46,24 @@ fn parts(rt: &HostRuntime) -> anyhow::Result<()> {
     with_parts(rt, "parts 1 and 2 bad", HasVar::Unknown, &[0, 5, 4])
 }
 
-// Part 1 is an application to one term twice, and so on, so many times over.
-fn ask_doubled(
-    t: &mut Tables,
-    has_var: HasVar,
-    from: usize,
-    times: usize,
-) -> Result<(), AllocError> {
-    let mut top = from;
-    for _ in 0..times {
-        top = t.app(has_var, &[top, top])?;
-    }
-    t.ask(HasVar::Yes, &[2, top])
-}
-
 fn shared(rt: &HostRuntime) -> anyhow::Result<()> {
     show_at(
         rt,
         "part 1 a variable doubled so often:",
         &[5, 6, 60],
-        |t, times| ask_doubled(t, HasVar::Yes, 1, times),
+        |t, times| {
+            let part = t.nested::<2>(HasVar::Yes, 1, times)?;
+            t.ask(HasVar::Yes, &[2, part])
+        },
     )?;
     show_at(
         rt,
         "part 1 a constant doubled so often:",
         &[60],
-        |t, times| ask_doubled(t, HasVar::No, 0, times),
+        |t, times| {
+            let part = t.nested::<2>(HasVar::No, 0, times)?;
+            t.ask(HasVar::Yes, &[2, part])
+        },
     )
 }
 

@@ -23,19 +23,11 @@ fn add_variables(t: &mut Tables) -> Result<(), AllocError> {
     Ok(())
 }
 
-fn add_chain(t: &mut Tables) -> Result<usize, AllocError> {
-    let mut top = 32;
-    for _ in 0..63 {
-        top = t.app(HasVar::Yes, &[top])?;
-    }
-    Ok(top)
-}
-
 // 16 parts of 64 places each: eight are 64 deep, eight have 63 children.
 fn add_parts(t: &mut Tables) -> Result<[usize; 16], AllocError> {
     array::try_from_fn(|i| {
         if i < 8 {
-            add_chain(t)
+            t.nested::<1>(HasVar::Yes, 32, 63)
         } else {
             t.app(HasVar::Yes, &[32; 63])
         }

@@ -35,10 +35,8 @@ fn store_sizes(rt: &HostRuntime) -> anyhow::Result<()> {
 
 // Variable 0 under applications to one child each, n places in all.
 fn ask_chain(t: &mut Tables, n: usize) -> Result<(), AllocError> {
-    let mut top = t.var(0)?;
-    for _ in 1..n {
-        top = t.app(HasVar::Yes, &[top])?;
-    }
+    let variable = t.var(0)?;
+    let top = t.nested::<1>(HasVar::Yes, variable, n.saturating_sub(1))?;
     t.ask(HasVar::Yes, &[top])
 }
 

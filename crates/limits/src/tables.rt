@@ -1,4 +1,6 @@
 // A request's tables, built up in vectors.
+ghost use Rattle.std.specs.Prelude.{◌<◌, ◌^◌};
+
 use request::{ENodeIdx, LogEntry, MatchKind, Pair, Request, TermIdx};
 use std::alloc::{AllocError, Global};
 use store::{ENode, HasVar, Span, Store, Term, TermKind};
@@ -86,6 +88,23 @@ impl Tables {
 
     pub fn app(&mut self, has_var: HasVar, children: &[usize]) -> Result<usize, AllocError> {
         self.term(TermKind::App(0), has_var, children)
+    }
+
+    // An application to copies of this term, one to copies of that application, and so on, so many times.
+    // An array of the copies fits in memory.
+    pub fn nested<const COPIES: usize>(
+        &mut self,
+        has_var: HasVar,
+        term: usize,
+        times: usize,
+    ) -> Result<usize, AllocError>
+        requires { COPIES < 2 ^ 60 }
+    {
+        let mut top = term;
+        for _ in 0..times {
+            top = self.app(has_var, &[top; COPIES])?;
+        }
+        Ok(top)
     }
 
     pub fn node(&mut self, owner: usize) -> Result<(), AllocError> {
