@@ -2,6 +2,7 @@
 use crate::tables::{Bindings, Tables, small};
 use crate::verdict::{show, show_at, show_changed};
 use request::{ENodeIdx, TermIdx};
+use std::alloc::AllocError;
 use store::HasVar;
 
 fn patterns(rt: &HostRuntime) -> anyhow::Result<()> {
@@ -67,38 +68,46 @@ fn shared(rt: &HostRuntime) -> anyhow::Result<()> {
     )
 }
 
-fn bound_to_terms(rt: &HostRuntime) -> anyhow::Result<()> {
+// The variable bound to each of these alone.
+fn bound_to<F: Fn(usize) -> Result<Bindings, AllocError> + Drop>(
+    rt: &HostRuntime,
+    what: &str,
+    targets: &[(usize, &str)],
+    bind: F,
+) -> anyhow::Result<()>
+    requires { F.IsAlwaysCallable bind }
+{
+    for &(number, kind) in targets {
+        let mut t = small(rt.alloc())?;
+        t.bound = bind(number)?;
+        let what = format_args!("bound to {what} {number}, {kind}");
+        show(rt, what, t.request().check())?;
+    }
+    Ok(())
+}
+
+fn bindings(rt: &HostRuntime) -> anyhow::Result<()> {
     let heap = rt.alloc();
-    for (term, what) in [
+    let terms = [
         (0, "closed"),
         (1, "a variable"),
         (2, "with a variable"),
         (4, "a quantifier"),
         (5, "missing"),
-    ] {
-        show_changed(rt, format_args!("bound to term {term}, {what}"), |t| {
-            t.bound = Bindings::ToTerms(vec![in heap; TermIdx(term)]?);
-            Ok(())
-        })?;
-    }
-    Ok(())
-}
-
-fn bound_to_nodes(rt: &HostRuntime) -> anyhow::Result<()> {
-    let heap = rt.alloc();
-    for (node, what) in [
+    ];
+    bound_to(rt, "term", &terms, |term| {
+        Ok(Bindings::ToTerms(vec![in heap; TermIdx(term)]?))
+    })?;
+    let nodes = [
         (0, "of closed term 0"),
         (1, "of closed term 0"),
         (2, "of a variable"),
         (3, "of a quantifier"),
         (4, "missing"),
-    ] {
-        show_changed(rt, format_args!("bound to node {node}, {what}"), |t| {
-            t.bound = Bindings::ToNodes(vec![in heap; ENodeIdx(node)]?);
-            Ok(())
-        })?;
-    }
-    Ok(())
+    ];
+    bound_to(rt, "node", &nodes, |node| {
+        Ok(Bindings::ToNodes(vec![in heap; ENodeIdx(node)]?))
+    })
 }
 
 fn unbound(rt: &HostRuntime) -> anyhow::Result<()> {
@@ -138,8 +147,7 @@ pub fn run(rt: &HostRuntime) -> anyhow::Result<()> {
     patterns(rt)?;
     parts(rt)?;
     shared(rt)?;
-    bound_to_terms(rt)?;
-    bound_to_nodes(rt)?;
+    bindings(rt)?;
     unbound(rt)?;
     last_variable(rt)?;
     counts(rt)

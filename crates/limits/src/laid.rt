@@ -9,11 +9,11 @@ fn children(rt: &HostRuntime, what: &str, spans: &[Span]) -> anyhow::Result<()> 
     t.symbol(b"a")?;
     t.app(HasVar::No, &[])?;
     t.cells.resize(4, 0)?;
-    for child_ids in spans {
+    for &child_ids in spans {
         t.terms.push(Term {
             kind: TermKind::App(0),
             has_var: HasVar::No,
-            child_ids: *child_ids,
+            child_ids,
         })?;
     }
     show(rt, what, t.store().check())

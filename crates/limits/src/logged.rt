@@ -64,7 +64,7 @@ fn pair_past_the_limit(rt: &HostRuntime) -> anyhow::Result<()> {
     )
 }
 
-// Makes a small request one at which the grounds from this one to the sixth hold.
+// Makes the small request one at which the grounds from this one to the sixth hold.
 fn spoil(heap: Global, t: &mut Tables, first: usize) -> Result<(), AllocError> {
     t.entries.clear();
     t.entry(if first <= 6 { 9 } else { 0 }, span(0, 0))?;
