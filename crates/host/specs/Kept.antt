@@ -7,7 +7,6 @@ use Rattle.store.specs.declared.term.HasVar.{HasVar}
 use Rattle.store.specs.declared.term.HasVar.TheVariants.{No, Yes, Unknown}
 use Rattle.store.specs.Tables.{Tables, owner_of, recorded, Closed}
 use Rattle.store.proofs.Decided.{some_not_none, same_some}
-use Rattle.store.proofs.Holding.{held_few}
 use Rattle.host.specs.declared.table.TableHost.{TableHost}
 use Rattle.host.specs.Meaning.{HostRules}
 use Rattle.host.specs.Reading.{is_no, is_the, live_as}
@@ -39,5 +38,5 @@ tabled_rules joins within S h = record {
   live_closed = λ t n e. (live_kept S t n (slice_get h.live.now t) e).1;
   classes_hold_nodes = λ a b e. within h.loose (length S.nodes) a b e;
   strict_within_loose = λ a b e. (and_parts _ _ e).0;
-  few = held_few h.made;
+  few = h.few;
 }

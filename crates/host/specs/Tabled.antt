@@ -1,6 +1,5 @@
 -- What a host of tables means.
 use Rattle.std.specs.Prelude.{◌≡◌, ℕ, Bool, ◌&&◌, List, [], length}
-use Rattle.store.specs.Held.{held}
 use Rattle.store.specs.Tables.{Tables}
 use Rattle.host.specs.declared.table.TableHost.{TableHost}
 use Rattle.host.specs.Meaning.{HostMeaning}
@@ -11,7 +10,7 @@ tabled joins S h = record {
   live = live_in S h.live.now;
   loose = joins h.loose (length S.nodes);
   strict = λ a b. joins h.loose (length S.nodes) a b && joins h.strict (length S.nodes) a b;
-  listed = held h.made;
+  listed = h.made;
   room = 4096;
 }
 
@@ -20,4 +19,4 @@ pub record Fresh {P : Type 0} (h : TableHost P) (live : List ℕ) (loose strict 
   pub lives : h.live.now ≡ live
   pub loosely : h.loose ≡ loose
   pub strictly : h.strict ≡ strict
-  pub none_made : held h.made ≡ []
+  pub none_made : h.made ≡ []

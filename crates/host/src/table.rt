@@ -1,8 +1,6 @@
 // A host that reads its live nodes and classes from tables, and lists up to 4,096 equalities.
-ghost use Rattle.std.specs.Prelude.{◌≡◌, ℕ, Some, Decides, MatchOption, ◌≢◌};
+ghost use Rattle.std.specs.Prelude.{◌≡◌, ℕ, ◌≤◌, length, Some, Decides, MatchOption, ◌≢◌};
 ghost use Rattle.host.specs.Meaning.{GoodEnds, Permits, Makes, in_host};
-ghost use Rattle.host.specs.Tabled.{tabled, Fresh};
-ghost use Rattle.host.specs.Kept.{tabled_rules};
 ghost use Rattle.std.specs.List.{slice_get};
 ghost use Rattle.store.specs.Tables.{tables};
 
@@ -13,11 +11,12 @@ use request::Pair;
 use store::{Culprit, Fault, Fixed, Layer, Refusal, Store, lookup};
 
 #[derive(Drop)]
-pub struct TableHost<'a, P: Partition> {
+pub struct TableHost<'a, P> {
     live: &'a [usize],
     loose: P,
     strict: P,
     made: Fixed<Pair, 4096>,
+    ghost few: { length made ≤ 4096 },
 }
 
 // The number of the first equality with these ends.
@@ -44,6 +43,8 @@ fn refused(refusal: Refusal) -> Fault
 }
 
 impl<'a, P: Partition> TableHost<'a, P> {
+    ghost use Rattle.host.specs.Tabled.{tabled, Fresh};
+
     // A host with no equality yet: a live node for each term, and two tables of classes of the nodes.
     pub fn new(live: &'a [usize], loose: P, strict: P) -> Self
         ensures { Fresh result live.now loose strict }
@@ -77,6 +78,9 @@ impl<'a, P: Partition> TableHost<'a, P> {
 }
 
 impl<'a, P: Partition> Host for TableHost<'a, P> {
+    ghost use Rattle.host.specs.Tabled.{tabled};
+    ghost use Rattle.host.specs.Kept.{tabled_rules};
+
     ghost meaning = { λ h S. tabled P.Partition.joins S h };
 
     ghost rules = { λ h S. tabled_rules P.Partition.joins P.Partition.within S h };

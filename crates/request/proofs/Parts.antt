@@ -5,7 +5,6 @@ use Rattle.std.proofs.lemmas.Option.{slice_get_within}
 use Rattle.store.specs.declared.term.Term.{Term}
 use Rattle.store.specs.Rules.{StoreRules}
 use Rattle.store.specs.declared.fixed.Fixed.{Fixed}
-use Rattle.store.specs.Held.{held}
 use Rattle.store.specs.Tables.{Tables, term_at, children_in, kids}
 use Rattle.store.proofs.Decided.{some_not_none, passed, refused, all_at}
 use Rattle.request.specs.Asked.{Asked, part_at}
@@ -15,11 +14,11 @@ use Rattle.request.proofs.Walks.{unique}
 
 -- what the listing of a term's places answers
 abbrev pub Lists : Tables → ℕ → Option (Fixed ℕ 64) → Type 0
-Lists S t o = MatchOption o ((ts : List ℕ) → Preorder S t ts → 64 < length ts) (λ p. Preorder S t (held p) × (length (held p) ≤ 64))
+Lists S t o = MatchOption o ((ts : List ℕ) → Preorder S t ts → 64 < length ts) (λ p. Preorder S t p × (length p ≤ 64))
 
 pub part_decided : (S : Tables) (t : ℕ) (o : Option (Fixed ℕ 64)) → (Quantified S t → ⊥) → Lists S t o → Decides (is_some o) (PartRules S t)
 part_decided S t None plain over = refused (PartRules S t) (λ r. let far = over r.places r.listed in omega (arith, r.few))
-part_decided S t (Some p) plain got = passed (PartRules S t) (record { plain = plain; places = held p; listed = got.0; few = got.1 })
+part_decided S t (Some p) plain got = passed (PartRules S t) (record { plain = plain; places = p; listed = got.0; few = got.1 })
 
 -- the places are listed in one way only, so one list speaks for all
 pub bound_decided : (R : Asked) (t : ℕ) (ts : List ℕ) (r : Bool) → Preorder R.store t ts → Decides r (All (PlaceBound R) ts) → Decides r (PartBound R t)

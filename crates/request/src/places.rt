@@ -1,7 +1,6 @@
 // The places of a part: the occurrences of terms in it, in preorder.
-ghost use Rattle.std.specs.Prelude.{◌≡◌, ℕ, ◌+◌, ◌<◌, List, ◌++◌, length, MatchResult};
+ghost use Rattle.std.specs.Prelude.{◌≡◌, ℕ, ◌+◌, ◌<◌, ◌≤◌, List, ◌++◌, length, MatchResult};
 ghost use Rattle.request.specs.Places.{Preorder, opened, variable_at};
-ghost use Rattle.store.specs.Held.{held};
 ghost use Rattle.store.specs.Tables.{tables};
 
 use store::{Fixed, Full, HasVar, Store, TermKind};
@@ -34,7 +33,7 @@ pub(crate) fn variable_at(store: Store, t: usize) -> Option<usize>
 
 // Lists a term and all places below it, unless that would be over 64. It stops there, so shared terms cost it nothing.
 pub(crate) fn walk(store: Store, t: usize, out: &mut Places) -> Result<(), Full>
-    ensures { MatchResult result (λ _. (ts : List ℕ) × Preorder (tables store.entry) t ts × (held out.new ≡ held out.old ++ ts)) (λ _. (ts : List ℕ) → Preorder (tables store.entry) t ts → 64 < length (held out.old) + length ts) }
+    ensures { MatchResult result (λ _. (ts : List ℕ) × Preorder (tables store.entry) t ts × (out.new ≡ out.old ++ ts) × (length out.new ≤ 64)) (λ _. (ts : List ℕ) → Preorder (tables store.entry) t ts → 64 < length out.old + length ts) }
 {
     out.push(t)?;
     for c in opened(store, t) {

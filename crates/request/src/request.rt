@@ -3,7 +3,6 @@ ghost use Rattle.std.specs.Prelude.{◌≡◌, ℕ, ◌<◌, ◌≤◌, List, le
 ghost use Rattle.request.specs.Asked.{asked, parts, entry_term, entry_pairs};
 ghost use Rattle.request.specs.Places.{Preorder, variable_at, opened};
 ghost use Rattle.std.specs.Option.{option_map};
-ghost use Rattle.store.specs.Held.{held};
 ghost use Rattle.store.specs.Tables.{tables};
 
 use crate::kinds::{LogEntry, MatchKind, Pair};
@@ -45,7 +44,7 @@ impl<'a> Request<'a> {
 
     // The places of a term in preorder; none where they are over 64.
     pub fn places(self, term: usize) -> Option<Places>
-        ensures { MatchOption result ((ts : List ℕ) → Preorder (asked self.entry).store term ts → 64 < length ts) (λ p. Preorder (asked self.entry).store term (held p) × (length (held p) ≤ 64)) }
+        ensures { MatchOption result ((ts : List ℕ) → Preorder (asked self.entry).store term ts → 64 < length ts) (λ p. Preorder (asked self.entry).store term p × (length p ≤ 64)) }
     {
         let mut out = Places::new(0);
         walk(self.store, term, &mut out).ok()?;

@@ -1,5 +1,4 @@
 pub mod Decided
 pub mod Laying
 pub mod Marks
-pub mod Holding
 pub mod Named

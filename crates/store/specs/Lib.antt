@@ -3,5 +3,4 @@ pub mod Spans
 pub mod Terms
 pub mod Tables
 pub mod Rules
-pub mod Held
 pub mod Shown

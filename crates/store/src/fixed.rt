@@ -1,15 +1,24 @@
 // A list of at most N items that lies in an array, so that it needs no allocator.
-ghost use Rattle.std.specs.Prelude.{◌≡◌, ◌≤◌, [], ◌∷◌, ◌++◌, length, take, MatchOption, MatchResult};
+ghost use Rattle.std.specs.Prelude.{◌≡◌, ◌<◌, ◌≤◌, [], ◌∷◌, ◌++◌, length, take, MatchOption, MatchResult};
 ghost use Rattle.std.specs.List.{slice_get};
 
 use crate::span::lookup;
+use std::marker::Model;
 
 #[derive(Drop)]
 pub struct Fixed<T: Copy, const N: usize> {
     items: [T; N],
     len: usize,
-    ghost room: { length items ≡ N },
-    ghost few: { len ≤ N },
+}
+
+impl<T: Copy, const N: usize> Model for Fixed<T, N> {
+    ghost use Rattle.std.specs.Prelude.{◌≤◌, List, take};
+
+    ghost Value = { List T };
+
+    ghost view = { λ f. take f.len f.items };
+
+    ghost invariant = { λ f. f.len ≤ N };
 }
 
 // There is no room for one item more.
@@ -17,11 +26,9 @@ pub struct Fixed<T: Copy, const N: usize> {
 pub struct Full;
 
 impl<T: Copy, const N: usize> Fixed<T, N> {
-    ghost use Rattle.store.specs.Held.{held};
-
     // An empty list; `fill` lies in the cells that hold nothing yet.
     pub fn new(fill: T) -> Self
-        ensures { held result ≡ [] }
+        ensures { result ≡ [] }
     {
         Fixed {
             items: [fill; N],
@@ -31,7 +38,7 @@ impl<T: Copy, const N: usize> Fixed<T, N> {
 
     // One item more.
     pub fn push(&mut self, x: T) -> Result<(), Full>
-        ensures { MatchResult result (λ _. held self.new ≡ held self.old ++ x ∷ []) (λ _. (length (held self.old) ≡ N) × (self.new ≡ self.old)) }
+        ensures { MatchResult result (λ _. (self.new ≡ self.old ++ x ∷ []) × (length self.old < N)) (λ _. (length self.old ≡ N) × (self.new ≡ self.old)) }
     {
         let at = self.len;
         if at >= N {
@@ -43,26 +50,26 @@ impl<T: Copy, const N: usize> Fixed<T, N> {
     }
 
     pub fn count(&self) -> usize
-        ensures { result ≡ length (held self.now) }
+        ensures { result ≡ length self.now }
     {
         self.len
     }
 
     pub fn as_slice(&self) -> &[T]
-        ensures { result.now ≡ held self.now }
+        ensures { result.now ≡ self.now }
     {
         &self.items[..self.len]
     }
 
     pub fn get(&self, i: usize) -> Option<T>
-        ensures { result ≡ slice_get (held self.now) i }
+        ensures { result ≡ slice_get self.now i }
     {
         lookup(self.as_slice(), i)
     }
 
     // The last item, which is taken off.
     pub fn pop(&mut self) -> Option<T>
-        ensures { MatchOption result ((held self.old ≡ []) × (self.new ≡ self.old)) (λ x. held self.old ≡ held self.new ++ x ∷ []) }
+        ensures { MatchOption result ((self.old ≡ []) × (self.new ≡ self.old)) (λ x. self.old ≡ self.new ++ x ∷ []) }
     {
         self.len = self.len.checked_sub(1)?;
         Some(self.items[self.len])
@@ -70,7 +77,7 @@ impl<T: Copy, const N: usize> Fixed<T, N> {
 
     // Keeps the first n items at most.
     pub fn truncate(&mut self, n: usize)
-        ensures { held self.new ≡ take n (held self.old) }
+        ensures { self.new ≡ take n self.old }
     {
         self.len = self.len.min(n);
     }

@@ -1,11 +1,8 @@
-use Rattle.std.proofs.Common.{◌≡◌, length, Some, ap, ◌∙◌, subst, arith}
+use Rattle.std.proofs.Common.{◌≡◌, Some, ap, ◌∙◌, subst, arith}
 use Rattle.std.specs.List.{slice_get}
-use Rattle.std.proofs.lemmas.List.{length_push}
 use Rattle.std.proofs.lemmas.Result.{err_from_is_err_and}
 use Rattle.std.proofs.lemmas.Bool.Decides.{not_from_Decides}
-use Rattle.store.specs.Held.{held}
 use Rattle.store.specs.Tables.{tables}
-use Rattle.store.proofs.Holding.{held_few}
 use Rattle.host.specs.Meaning.{known, with_listed}
 use Rattle.host.specs.Tabled.{tabled}
 use Rattle.host.proofs.Making.{refused_ends, refused_permit, refused_full, made_new}
@@ -28,7 +25,7 @@ returns-in-Ok g c =
     let pushed = c.in-Ok.ensures in
     made_new _ m _ _ _ _ (c.are_ends.ensures.0 c.if-not-are_ends.false) c.in_ok-permit.ensures
     (λ k e. c.in_default.ensures k (ap (λ l. slice_get l k) c.as_slice.ensures ∙ e))
-    (omega (arith, held_few c.push.new.self, ap length pushed ∙ length_push (held c.args.self.now.made) c.args.ends)) c.count-k.ensures (ap (with_listed m) pushed)
+    (omega (arith, pushed.1)) c.count-k.ensures (ap (with_listed m) pushed.0)
 
 pub returns-in-Err : goal.returns-in-Err
 returns-in-Err g c =
@@ -36,4 +33,4 @@ returns-in-Err g c =
     let stuck = c.in-Err.ensures in
     refused_full _ m _ _ _ _ (c.are_ends.ensures.0 c.if-not-are_ends.false) c.in_ok-permit.ensures
     (λ k e. c.in_default.ensures k (ap (λ l. slice_get l k) c.as_slice.ensures ∙ e))
-    (omega (arith, stuck.0)) c.refused-in-Err.ensures (ap (λ l. with_listed m (held l)) stuck.1)
+    (omega (arith, stuck.0)) c.refused-in-Err.ensures (ap (with_listed m) stuck.1)
