@@ -1,8 +1,8 @@
 -- Each rewriter keeps the offer rules, and which are steady.
 use Rattle.std.specs.Prelude.{◌≡◌, ℕ, suc, ◌+◌, ◌<◌, Bool, true, false, cond, not, ◌&&◌, ◌⊎◌, List, [], ◌∷◌, ◌++◌, length, drop, Some, None, Option, ◌==◌, nat_le, nat_lt, refl}
 use Rattle.std.proofs.Common.{ap, subst, inl, inr, arith, length-drop}
-use Rattle.std.specs.List.{slice_get, AllByRecursion}
-use Rattle.std.proofs.ByRecursion.{All-append, All-map, All-weaker}
+use Rattle.std.specs.List.{slice_get, All}
+use Rattle.std.proofs.lemmas.List.Elements.{All-nil, All-cons, All-head, All-append, All-map, All-weaker}
 use Rattle.std.proofs.lemmas.Bool.{and_parts, ltb-true, leb-true, le-leb, cond_both}
 use Rattle.store.specs.declared.term.ENode.{ENode}
 use Rattle.store.specs.Tables.{Tables, owner_of, owner_in}
@@ -39,10 +39,10 @@ due S n (p ∷ ps) u e = due_as S n (length ps) p (upcoming S (suc n) ps) u (is_
 -- what an answer's offers keep
 pub record Sound (S : Tables) (b : ℕ) (o : Offers) : Type 0 where
   pub owned : owner_of S o.from ≡ Some b
-  pub there : AllByRecursion (λ n. n < length S.nodes) o.tos
+  pub there : All (λ n. n < length S.nodes) o.tos
 
 one_sound : (S : Tables) (b : ℕ) (p : Pair) (o : Offers) → is_the (owner_of S p.from) b ≡ true → p.to < length S.nodes → one_offer p ≡ o → Sound S b o
-one_sound S b p o e h same = subst (Sound S b) same (record { owned = the_owner (owner_of S p.from) b e; there = (h, tt) })
+one_sound S b p o e h same = subst (Sound S b) same (record { owned = the_owner (owner_of S p.from) b e; there = All-cons (λ n. n < length S.nodes) p.to [] h (All-nil (λ n. n < length S.nodes)) })
 
 basic_sound : (S : Tables) (b : ℕ) (r : Option Turn) (o : Offers) → ((u : Turn) → r ≡ Some u → is_proper S u.pair ≡ true) → basic_offer S b r ≡ Some o → Sound S b o × (0 < length o.tos)
 basic_sound S b None o h e = absurd (some_not_none None o refl e)
@@ -64,22 +64,22 @@ basic_rules ps S = record {
 }
 
 -- every pair that ComplexEq reads at b leaves from a node of b
-all_one_way : (S : Tables) (p : Pair) (b : ℕ) (t : Bool) → leaves S p b ≡ t → AllByRecursion (λ x. leaves S x b ≡ true) (cond t (p ∷ []) [])
-all_one_way S p b true e = (e, tt)
-all_one_way S p b false e = tt
+all_one_way : (S : Tables) (p : Pair) (b : ℕ) (t : Bool) → leaves S p b ≡ t → All (λ x. leaves S x b ≡ true) (cond t (p ∷ []) [])
+all_one_way S p b true e = All-cons (λ x. leaves S x b ≡ true) p [] e (All-nil (λ x. leaves S x b ≡ true))
+all_one_way S p b false e = All-nil (λ x. leaves S x b ≡ true)
 
-all_ways : (S : Tables) (ps : List Pair) (b : ℕ) → AllByRecursion (λ x. leaves S x b ≡ true) (ways S ps b)
-all_ways S [] b = tt
+all_ways : (S : Tables) (ps : List Pair) (b : ℕ) → All (λ x. leaves S x b ≡ true) (ways S ps b)
+all_ways S [] b = All-nil (λ x. leaves S x b ≡ true)
 all_ways S (p ∷ ps) b =
     All-append (λ x. leaves S x b ≡ true) (one_way S p b) (one_way S (turned p) b ++ ways S ps b) (all_one_way S p b (leaves S p b) refl)
     (All-append (λ x. leaves S x b ≡ true) (one_way S (turned p) b) (ways S ps b) (all_one_way S (turned p) b (leaves S (turned p) b) refl) (all_ways S ps b))
 
-far_sound : (S : Tables) (b : ℕ) (ps : List Pair) (o : Offers) → AllByRecursion (λ x. leaves S x b ≡ true) ps → far_ends ps ≡ Some o → Sound S b o × (0 < length o.tos)
+far_sound : (S : Tables) (b : ℕ) (ps : List Pair) (o : Offers) → All (λ x. leaves S x b ≡ true) ps → far_ends ps ≡ Some o → Sound S b o × (0 < length o.tos)
 far_sound S b [] o all e = absurd (some_not_none None o refl e)
 far_sound S b (p ∷ ps) o all e =
     let same = same_some _ _ o refl e in (
       subst (Sound S b) same (record {
-        owned = the_owner (owner_of S p.from) b (and_parts (is_proper S p) (is_the (owner_of S p.from) b) all.0).1;
+        owned = the_owner (owner_of S p.from) b (and_parts (is_proper S p) (is_the (owner_of S p.from) b) (All-head (λ x. leaves S x b ≡ true) p ps all)).1;
         there = All-map (λ n. n < length S.nodes) (λ x. x.to) (p ∷ ps) (All-weaker (λ x. leaves S x b ≡ true) (λ x. x.to < length S.nodes) (λ x l. to_node S x (and_parts (is_proper S x) (is_the (owner_of S x.from) b) l).0) (p ∷ ps) all);
       }),
       subst (λ x. 0 < length x.tos) same (omega arith),
@@ -124,7 +124,7 @@ own_sound S q (Some p) below o pr h low e =
     let rules = pr.host_ruled in
     subst (Sound S q.blame) (same_some _ _ o refl e) (record {
       owned = rules.live_owned q.blame p.from j.0;
-      there = (owner_inside S p.to q.subpat (slice_get S.nodes p.to) refl (rules.live_owned q.subpat p.to j.1), tt);
+      there = All-cons (λ n. n < length S.nodes) p.to [] (owner_inside S p.to q.subpat (slice_get S.nodes p.to) refl (rules.live_owned q.subpat p.to j.1)) (All-nil (λ n. n < length S.nodes));
     })
 
 own_some : (r : Option Pair) (below : Option Offers) (o : Offers) → (below ≡ Some o → 0 < length o.tos) → own_or r below ≡ Some o → 0 < length o.tos
@@ -156,7 +156,7 @@ module _ (S : Tables) (ρ : RewriterMeaning) (below : OfferRules S ρ) where
     to_there = λ s q o pr e. (own_sound S q (same_ends q) (ρ.ask s q) o pr (same_join q (live_ends q) (live_join q)) (ask_sound s q o pr) e).there;
   }
 
-  nodes_sound : (q : Query) (n : ℕ) (ns : List ℕ) (o : Offers) → owner_of S n ≡ Some q.blame → AllByRecursion (λ m. m < length S.nodes) ns → nodes_from n ns ≡ Some o → Sound S q.blame o × (0 < length o.tos)
+  nodes_sound : (q : Query) (n : ℕ) (ns : List ℕ) (o : Offers) → owner_of S n ≡ Some q.blame → All (λ m. m < length S.nodes) ns → nodes_from n ns ≡ Some o → Sound S q.blame o × (0 < length o.tos)
   nodes_sound q n [] o owned all e = absurd (some_not_none None o refl e)
   nodes_sound q n (a ∷ ns) o owned all e =
       let same = same_some _ _ o refl e in

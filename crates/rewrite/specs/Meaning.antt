@@ -1,11 +1,12 @@
 -- What a rewriter means, and the rules that each rewriter keeps.
 use Rattle.std.specs.Prelude.{◌≡◌, ℕ, ◌<◌, Bool, true, cond, ◌⊎◌, List, length, Some, None, Option}
-use Rattle.std.specs.List.{slice_get, AllByRecursion}
-use Rattle.store.specs.Tables.{Tables, owner_of}
+use Rattle.std.specs.List.{slice_get, All}
+use Rattle.store.specs.Tables.{Tables, tables, owner_of}
 use Rattle.request.specs.declared.kinds.Pair.{Pair}
 use Rattle.host.specs.Meaning.{HostMeaning, HostRules, with_listed}
 use Rattle.rewrite.specs.declared.coupling.Coupling.{Coupling}
 use Rattle.rewrite.specs.declared.offered.Offered.{Offered}
+use Rattle.rewrite.specs.declared.query.Query as declared
 
 -- the node to rewrite from, and those offered to rewrite to, in their order
 pub record Offers : Type 0 where
@@ -21,6 +22,10 @@ pub record Query : Type 0 where
 
 abbrev pub query : HostMeaning → List ℕ → ℕ → ℕ → Query
 query m ns b s = record { host = m; aside = ns; blame = b; subpat = s }
+
+-- the query that the code asks, by what its host means
+abbrev pub meant : {H : Type 0} → (H → Tables → HostMeaning) → declared.Query H → Query
+meant meaning q = query (meaning q.host.now (tables q.store)) q.aside.now q.blame q.subpat
 
 -- A rewriter's states are named by its marks, which are numbers: the first; which numbers mark a state; in which it is finished; what a
 -- query answers there, and in which state it leaves the rewriter.
@@ -49,14 +54,14 @@ offer_at (Some o) i = slice_get o.tos i
 -- a host that keeps its rules, and set-aside nodes that are there
 pub record Proper (S : Tables) (q : Query) : Type 0 where
   pub host_ruled : HostRules S q.host
-  pub aside_there : AllByRecursion (λ n. n < length S.nodes) q.aside
+  pub aside_there : All (λ n. n < length S.nodes) q.aside
 
 pub record OfferRules (S : Tables) (ρ : RewriterMeaning) : Type 0 where
   pub first_known : ρ.known ρ.first ≡ true
   pub next_known : (s : ℕ) (q : Query) → ρ.known s ≡ true → ρ.known (ρ.next s q) ≡ true
   pub from_owned : (s : ℕ) (q : Query) (o : Offers) → Proper S q → ρ.ask s q ≡ Some o → owner_of S o.from ≡ Some q.blame
   pub some_offer : (s : ℕ) (q : Query) (o : Offers) → ρ.ask s q ≡ Some o → 0 < length o.tos
-  pub to_there : (s : ℕ) (q : Query) (o : Offers) → Proper S q → ρ.ask s q ≡ Some o → AllByRecursion (λ n. n < length S.nodes) o.tos
+  pub to_there : (s : ℕ) (q : Query) (o : Offers) → Proper S q → ρ.ask s q ≡ Some o → All (λ n. n < length S.nodes) o.tos
 
 -- the same query after equalities were made at the host
 abbrev pub relisted : Query → List Pair → Query

@@ -5,15 +5,12 @@ ghost use Rattle.rewrite.specs.Kinds.{basic};
 
 use crate::coupling::Coupling;
 use crate::offered::Offered;
+use crate::query::Query;
 use crate::rewriter::EqRewriter;
 use crate::turn::{is_owned, next_turn};
 use host::Host;
 use request::Pair;
 use store::Store;
-
-pub const COUPLING: Coupling = Coupling::Exact;
-
-pub const FORBID_DUPS: bool = false;
 
 #[derive(Clone, Copy)]
 pub struct BasicEq<'a> {
@@ -38,11 +35,11 @@ impl<'a> EqRewriter for BasicEq<'a> {
     ghost rules = { λ x S. basic_rules x.pairs.now S };
 
     fn coupling(&self) -> Coupling {
-        COUPLING
+        Coupling::Exact
     }
 
     fn forbid_dups(&self) -> bool {
-        FORBID_DUPS
+        false
     }
 
     fn reset(&mut self) {
@@ -61,16 +58,9 @@ impl<'a> EqRewriter for BasicEq<'a> {
         next_turn(store, self.pairs, self.at).is_none()
     }
 
-    fn possible_rewrite_count<H: Host>(
-        &mut self,
-        store: Store,
-        host: &H,
-        aside: &[usize],
-        blame: usize,
-        subpat: usize,
-    ) -> Option<Offered> {
-        let turn = next_turn(store, self.pairs, self.at)?;
-        if !is_owned(store, turn.pair.from, blame) {
+    fn possible_rewrite_count<H: Host>(&mut self, query: &Query<'_, H>) -> Option<Offered> {
+        let turn = next_turn(query.store, self.pairs, self.at)?;
+        if !is_owned(query.store, turn.pair.from, query.blame) {
             return None;
         }
         self.at = turn.number + 1;
@@ -82,18 +72,11 @@ impl<'a> EqRewriter for BasicEq<'a> {
 
     fn possible_rewrite<H: Host>(
         &self,
-        store: Store,
-        host: &H,
-        aside: &[usize],
-        blame: usize,
-        subpat: usize,
+        query: &Query<'_, H>,
         mark: usize,
         idx: usize,
     ) -> Option<usize> {
-        let turn = next_turn(store, self.pairs, mark)?;
-        if idx > 0 || !is_owned(store, turn.pair.from, blame) {
-            return None;
-        }
-        Some(turn.pair.to)
+        let turn = next_turn(query.store, self.pairs, mark)?;
+        (idx == 0 && is_owned(query.store, turn.pair.from, query.blame)).then_some(turn.pair.to)
     }
 }

@@ -8,15 +8,12 @@ ghost use Rattle.store.specs.Tables.{Tables, tables};
 
 use crate::coupling::Coupling;
 use crate::offered::Offered;
+use crate::query::Query;
 use crate::rewriter::EqRewriter;
 use crate::ways::{count_ways, nth_way};
 use host::Host;
 use request::Pair;
 use store::Store;
-
-pub const COUPLING: Coupling = Coupling::SwappedEqs;
-
-pub const FORBID_DUPS: bool = false;
 
 #[derive(Clone, Copy)]
 pub struct ComplexEq<'a> {
@@ -53,11 +50,11 @@ impl<'a> EqRewriter for ComplexEq<'a> {
     ghost rules = { λ x S. complex_rules x.own.now x.booked.now S };
 
     fn coupling(&self) -> Coupling {
-        COUPLING
+        Coupling::SwappedEqs
     }
 
     fn forbid_dups(&self) -> bool {
-        FORBID_DUPS
+        false
     }
 
     // It has one state only.
@@ -73,32 +70,22 @@ impl<'a> EqRewriter for ComplexEq<'a> {
         true
     }
 
-    fn possible_rewrite_count<H: Host>(
-        &mut self,
-        store: Store,
-        host: &H,
-        aside: &[usize],
-        blame: usize,
-        subpat: usize,
-    ) -> Option<Offered> {
-        let near = self.way(store, blame, 0)?;
+    fn possible_rewrite_count<H: Host>(&mut self, query: &Query<'_, H>) -> Option<Offered> {
+        let near = self.way(query.store, query.blame, 0)?;
         Some(Offered {
             from: near.from,
-            count: count_ways(store, self.own, blame) + count_ways(store, self.booked, blame),
+            count: count_ways(query.store, self.own, query.blame)
+                + count_ways(query.store, self.booked, query.blame),
         })
     }
 
     fn possible_rewrite<H: Host>(
         &self,
-        store: Store,
-        host: &H,
-        aside: &[usize],
-        blame: usize,
-        subpat: usize,
+        query: &Query<'_, H>,
         mark: usize,
         idx: usize,
     ) -> Option<usize> {
-        let way = self.way(store, blame, idx)?;
+        let way = self.way(query.store, query.blame, idx)?;
         Some(way.to)
     }
 }

@@ -5,15 +5,11 @@ ghost use Rattle.rewrite.specs.Kinds.{custom};
 ghost use Rattle.rewrite.specs.Meaning.{RewriterMeaning, Steady, Over};
 
 use crate::coupling::Coupling;
-use crate::live::same_ends;
 use crate::offered::Offered;
+use crate::query::Query;
 use crate::rewriter::EqRewriter;
 use host::Host;
 use store::Store;
-
-pub const COUPLING: Coupling = Coupling::MissingEqs;
-
-pub const FORBID_DUPS: bool = false;
 
 #[derive(Drop)]
 pub struct CustomEq<R: EqRewriter> {
@@ -38,11 +34,11 @@ impl<R: EqRewriter> EqRewriter for CustomEq<R> {
     ghost rules = { λ x S. custom_rules S (R.EqRewriter.rewriter x.inner S) (R.EqRewriter.rules x.inner S) };
 
     fn coupling(&self) -> Coupling {
-        COUPLING
+        Coupling::MissingEqs
     }
 
     fn forbid_dups(&self) -> bool {
-        FORBID_DUPS
+        false
     }
 
     fn reset(&mut self) {
@@ -61,40 +57,25 @@ impl<R: EqRewriter> EqRewriter for CustomEq<R> {
         self.inner.finished(store)
     }
 
-    fn possible_rewrite_count<H: Host>(
-        &mut self,
-        store: Store,
-        host: &H,
-        aside: &[usize],
-        blame: usize,
-        subpat: usize,
-    ) -> Option<Offered> {
-        match same_ends(store, host, blame, subpat) {
+    fn possible_rewrite_count<H: Host>(&mut self, query: &Query<'_, H>) -> Option<Offered> {
+        match query.same_ends() {
             Some(ends) => Some(Offered {
                 from: ends.from,
                 count: 1,
             }),
-            None => self
-                .inner
-                .possible_rewrite_count(store, host, aside, blame, subpat),
+            None => self.inner.possible_rewrite_count(query),
         }
     }
 
     fn possible_rewrite<H: Host>(
         &self,
-        store: Store,
-        host: &H,
-        aside: &[usize],
-        blame: usize,
-        subpat: usize,
+        query: &Query<'_, H>,
         mark: usize,
         idx: usize,
     ) -> Option<usize> {
-        match same_ends(store, host, blame, subpat) {
-            Some(ends) => { if idx == 0 { Some(ends.to) } else { None } }
-            None => self
-                .inner
-                .possible_rewrite(store, host, aside, blame, subpat, mark, idx),
+        match query.same_ends() {
+            Some(ends) => (idx == 0).then_some(ends.to),
+            None => self.inner.possible_rewrite(query, mark, idx),
         }
     }
 }

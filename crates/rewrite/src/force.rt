@@ -5,15 +5,11 @@ ghost use Rattle.rewrite.specs.Kinds.{force};
 ghost use Rattle.rewrite.specs.Meaning.{RewriterMeaning, Steady, Over};
 
 use crate::coupling::Coupling;
-use crate::live::{aside_from, live_ends};
 use crate::offered::Offered;
+use crate::query::Query;
 use crate::rewriter::EqRewriter;
 use host::Host;
 use store::{Store, lookup};
-
-pub const COUPLING: Coupling = Coupling::AddedEqs;
-
-pub const FORBID_DUPS: bool = true;
 
 #[derive(Drop)]
 pub struct ForceEq<R: EqRewriter> {
@@ -38,11 +34,11 @@ impl<R: EqRewriter> EqRewriter for ForceEq<R> {
     ghost rules = { λ x S. force_rules S (R.EqRewriter.rewriter x.inner S) (R.EqRewriter.rules x.inner S) };
 
     fn coupling(&self) -> Coupling {
-        COUPLING
+        Coupling::AddedEqs
     }
 
     fn forbid_dups(&self) -> bool {
-        FORBID_DUPS
+        true
     }
 
     fn reset(&mut self) {
@@ -61,57 +57,37 @@ impl<R: EqRewriter> EqRewriter for ForceEq<R> {
         self.inner.finished(store)
     }
 
-    fn possible_rewrite_count<H: Host>(
-        &mut self,
-        store: Store,
-        host: &H,
-        aside: &[usize],
-        blame: usize,
-        subpat: usize,
-    ) -> Option<Offered> {
-        if let Some(ends) = live_ends(store, host, blame, subpat) {
+    fn possible_rewrite_count<H: Host>(&mut self, query: &Query<'_, H>) -> Option<Offered> {
+        if let Some(ends) = query.live_ends() {
             return Some(Offered {
                 from: ends.from,
                 count: 1,
             });
         }
-        if let Some(offered) = self
-            .inner
-            .possible_rewrite_count(store, host, aside, blame, subpat)
-        {
+        if let Some(offered) = self.inner.possible_rewrite_count(query) {
             return Some(offered);
         }
-        let from = aside_from(store, host, aside, blame, subpat)?;
+        let from = query.aside_from()?;
         Some(Offered {
             from,
-            count: aside.len(),
+            count: query.aside.len(),
         })
     }
 
     fn possible_rewrite<H: Host>(
         &self,
-        store: Store,
-        host: &H,
-        aside: &[usize],
-        blame: usize,
-        subpat: usize,
+        query: &Query<'_, H>,
         mark: usize,
         idx: usize,
     ) -> Option<usize> {
-        if let Some(ends) = live_ends(store, host, blame, subpat) {
-            return if idx == 0 { Some(ends.to) } else { None };
+        if let Some(ends) = query.live_ends() {
+            return (idx == 0).then_some(ends.to);
         }
         // What offers at all has a first offer.
-        if self
-            .inner
-            .possible_rewrite(store, host, aside, blame, subpat, mark, 0)
-            .is_some()
-        {
-            return self
-                .inner
-                .possible_rewrite(store, host, aside, blame, subpat, mark, idx);
+        if self.inner.possible_rewrite(query, mark, 0).is_some() {
+            return self.inner.possible_rewrite(query, mark, idx);
         }
-        let _from = aside_from(store, host, aside, blame, subpat)?;
-        lookup(aside, idx)
+        let _from = query.aside_from()?;
+        lookup(query.aside, idx)
     }
 }

@@ -1,10 +1,11 @@
 // A rewriter, by what it means over a store.
 ghost use Rattle.std.specs.Prelude.{◌≡◌, ℕ};
-ghost use Rattle.rewrite.specs.Meaning.{RewriterMeaning, OfferRules, query, returned, counted, offer_at};
+ghost use Rattle.rewrite.specs.Meaning.{RewriterMeaning, OfferRules, meant, returned, counted, offer_at};
 ghost use Rattle.store.specs.Tables.{Tables, tables};
 
 use crate::coupling::Coupling;
 use crate::offered::Offered;
+use crate::query::Query;
 use host::Host;
 use store::Store;
 
@@ -39,29 +40,18 @@ pub trait EqRewriter {
     fn finished(&self, store: Store) -> bool
         ensures { result ≡ (rewriter self.now (tables store.entry)).finished (state self.now) };
 
-    // The query at a term and a pattern term.
-    fn possible_rewrite_count<H: Host>(
-        &mut self,
-        store: Store,
-        host: &H,
-        aside: &[usize],
-        blame: usize,
-        subpat: usize,
-    ) -> Option<Offered>
-        ensures answer { result ≡ counted ((rewriter self.old (tables store.entry)).ask (state self.old) (query (H.Host.meaning host.now (tables store.entry)) aside.now blame subpat)) }
-        ensures moves { state self.new ≡ (rewriter self.old (tables store.entry)).next (state self.old) (query (H.Host.meaning host.now (tables store.entry)) aside.now blame subpat) }
+    // What it answers to the query.
+    fn possible_rewrite_count<H: Host>(&mut self, query: &Query<'_, H>) -> Option<Offered>
+        ensures answer { result ≡ counted ((rewriter self.old (tables query.now.store)).ask (state self.old) (meant H.Host.meaning query.now)) }
+        ensures moves { state self.new ≡ (rewriter self.old (tables query.now.store)).next (state self.old) (meant H.Host.meaning query.now) }
         ensures same { rewriter self.new ≡ rewriter self.old };
 
     // The offer with this number of the query that was made in the marked state; none past the last.
     fn possible_rewrite<H: Host>(
         &self,
-        store: Store,
-        host: &H,
-        aside: &[usize],
-        blame: usize,
-        subpat: usize,
+        query: &Query<'_, H>,
         mark: usize,
         idx: usize,
     ) -> Option<usize>
-        ensures { result ≡ offer_at ((rewriter self.now (tables store.entry)).ask mark (query (H.Host.meaning host.now (tables store.entry)) aside.now blame subpat)) idx };
+        ensures { result ≡ offer_at ((rewriter self.now (tables query.now.store)).ask mark (meant H.Host.meaning query.now)) idx };
 }

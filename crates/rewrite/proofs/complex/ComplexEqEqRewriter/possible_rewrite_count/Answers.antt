@@ -6,10 +6,10 @@ use Rattle.rewrite.proofs.complex.ComplexEqEqRewriter.possible_rewrite_count.Goa
 
 pub returns : goal.returns
 returns g c =
-    let S = tables c.args.store in
+    let S = tables c.args.query.now.store in
     let own = c.args.self.now.own.now in
     let booked = c.args.self.now.booked.now in
-    let b = c.args.blame in
+    let b = c.args.query.now.blame in
     let long = ap length (ways_append S b own booked) ∙ length-append (ways S own b) (ways S booked b) in
     let sum : c.count_ways.result + c.count_ways-2.result ≡ length (ways S (own ++ booked) b) = omega (arith, c.count_ways.ensures.count, c.count_ways-2.ensures.count) in
     record {
