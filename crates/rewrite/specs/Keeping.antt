@@ -1,4 +1,4 @@
--- Each rewriter keeps the offer rules, and which are steady.
+-- Each rewriter keeps the offer rules, and which are steady. The impls cite these proofs as their law, and source may name only what stands in specs.
 use Rattle.std.specs.Prelude.{◌≡◌, ℕ, suc, ◌+◌, ◌<◌, Bool, true, false, cond, not, ◌&&◌, ◌⊎◌, List, [], ◌∷◌, ◌++◌, length, drop, Some, None, Option, ◌==◌, nat_le, nat_lt, refl}
 use Rattle.std.proofs.Common.{ap, subst, inl, inr, arith, length-drop}
 use Rattle.std.specs.List.{slice_get, All}

@@ -15,9 +15,6 @@ pub trait EqRewriter {
     // The state that it is in, by its mark.
     ghost state: { Self → ℕ };
 
-    // What each impl must prove.
-    ghost rules: { (x : Self) (S : Tables) → OfferRules S (rewriter x S) };
-
     fn coupling(&self) -> Coupling
         ensures { (S : Tables) → result ≡ (rewriter self.now S).coupling };
 
@@ -54,4 +51,7 @@ pub trait EqRewriter {
         idx: usize,
     ) -> Option<usize>
         ensures { result ≡ offer_at ((rewriter self.now (tables query.now.store)).ask mark (meant H.Host.meaning query.now)) idx };
+
+    // The law that each impl proves.
+    ghost rules: { (x : Self) (S : Tables) → OfferRules S (rewriter x S) };
 }

@@ -10,7 +10,7 @@ returns-in_err-_from g c =
     let S = tables c.args.query.now.store in
     let m = g.H.Host.meaning c.args.query.now.host.now S in
     let q = query m c.args.query.now.aside.now c.args.query.now.blame c.args.query.now.subpat in
-    let low = g.R.EqRewriter.rules c.args.self.now.inner S in
+    let low = g.met.R.EqRewriter.rules c.args.self.now.inner S in
     c.from_residual.ensures ∙ sym (aside_none (live_ends q) _ (m.live c.args.query.now.blame) (m.live c.args.query.now.subpat) c.args.query.now.aside.now c.args.idx c.in_default.ensures (low.some_offer c.args.mark q)
     (ap is_some (sym c.possible_rewrite.ensures) ∙ sym c.is_some.ensures ∙ c.if-is_some.false) c.in_err-_from.ensures)
 
@@ -19,6 +19,6 @@ returns g c =
     let S = tables c.args.query.now.store in
     let m = g.H.Host.meaning c.args.query.now.host.now S in
     let q = query m c.args.query.now.aside.now c.args.query.now.blame c.args.query.now.subpat in
-    let low = g.R.EqRewriter.rules c.args.self.now.inner S in
+    let low = g.met.R.EqRewriter.rules c.args.self.now.inner S in
     c.lookup.ensures ∙ sym (aside_at (live_ends q) _ (m.live c.args.query.now.blame) (m.live c.args.query.now.subpat) c.args.query.now.aside.now c.args.idx c.in_default.ensures (low.some_offer c.args.mark q)
     (ap is_some (sym c.possible_rewrite.ensures) ∙ sym c.is_some.ensures ∙ c.if-is_some.false) _ c.in_ok-_from.ensures)
