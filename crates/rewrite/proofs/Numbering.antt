@@ -1,21 +1,40 @@
--- Pairs read both ways, by their number.
-use Rattle.std.proofs.Common.{◌≡◌, ℕ, zero, suc, ◌+◌, ◌-◌, ◌<◌, ◌≤◌, false, List, [], ◌∷◌, ◌++◌, map, length, get_or, drop, is_some, Some, None, Option, sym, refl, ap, ◌∙◌, append_assoc, arith, length-append}
+-- Pairs by their number: the next one, and those that are read both ways.
+use Rattle.std.proofs.Common.{◌≡◌, ℕ, zero, suc, ◌+◌, ◌-◌, ◌<◌, ◌≤◌, true, false, List, [], ◌∷◌, ◌++◌, map, length, get_or, drop, is_some, Some, None, Option, sym, refl, ap, ◌∙◌, append_assoc, arith, length-append}
 use native.Mathlib.Nat.{sub-zero}
 use lib.ListN.{length-map}
-use Rattle.std.specs.List.{slice_get}
+use Rattle.std.specs.List.{slice_get, filter, flat_map, count_by, position, position_or_len}
+use Rattle.std.proofs.lemmas.List.Concat.{flat_map-append}
+use Rattle.std.proofs.lemmas.List.Elements.{filter-append}
+use Rattle.std.proofs.lemmas.List.Sums.{length-filter, fails_before_first}
+use Rattle.std.proofs.lemmas.Grind.{common_steps}
 use Rattle.std.specs.Option.{option_map}
 use Rattle.std.proofs.lemmas.List.{drop_more}
-use Rattle.std.proofs.lemmas.Bool.{true≢false}
+use Rattle.std.proofs.lemmas.Bool.{true≢false, cond-true, cond-false}
+use Rattle.std.proofs.lemmas.List.Quantifiers.{position-Some}
 use Rattle.store.specs.Tables.{Tables}
 use Rattle.store.proofs.Decided.{some_not_none, same_some}
 use Rattle.request.specs.declared.kinds.Pair.{Pair}
-use Rattle.rewrite.specs.Kinds.{turned, one_way, ways, far_ends, own_or, below_or, nodes_from, aside_as, from_of}
+use Rattle.rewrite.specs.Kinds.{is_proper, upcoming, leaves, turned, both, ways, far_ends, own_or, below_or, nodes_from, aside_as, from_of}
 use Rattle.rewrite.specs.Meaning.{Offers, counted, offer_at}
 
-pub nth_keep : {X : Type 0} (xs ys : List X) (i : ℕ) (x : X) → slice_get xs i ≡ Some x → slice_get (xs ++ ys) i ≡ Some x
-nth_keep [] ys i x e = absurd (some_not_none None x refl e)
-nth_keep (y ∷ xs) ys zero x e = e
-nth_keep (y ∷ xs) ys (suc i) x e = nth_keep xs ys i x e
+-- the pair whose turn it is, by its place among those that are left
+module _ (S : Tables) (d : Pair) where
+  pub upcoming_none : (n : ℕ) (ps : List Pair) → ((k : ℕ) → k < length ps → is_proper S (get_or ps k d) ≡ false) → upcoming S n ps ≡ None
+  upcoming_none n [] h = refl
+  upcoming_none n (p ∷ ps) h = cond-false _ _ _ (h 0 (omega arith)) ∙ upcoming_none (suc n) ps (λ k l. h (suc k) (omega arith))
+
+  pub upcoming_at : (n i : ℕ) (ps : List Pair) → i < length ps → is_proper S (get_or ps i d) ≡ true → ((k : ℕ) → k < i → is_proper S (get_or ps k d) ≡ false) → upcoming S n ps ≡ Some (record { number = n + i; pair = get_or ps i d })
+  upcoming_at n i [] l e h = absurd (omega arith)
+  upcoming_at n zero (p ∷ ps) l e h = cond-true _ _ _ e ∙ ap (λ m. Some (record { number = m; pair = p })) (omega arith)
+  upcoming_at n (suc i) (p ∷ ps) l e h = cond-false _ _ _ (h 0 (omega arith)) ∙ upcoming_at (suc n) i ps (omega arith) e (λ k m. h (suc k) (omega arith)) ∙ ap (λ m. Some (record { number = m; pair = get_or ps i d })) (omega arith)
+
+  pub upcoming_first : (n i : ℕ) (ps : List Pair) → position (is_proper S) ps ≡ Some i → Some (record { number = n + i; pair = get_or ps i d }) ≡ upcoming S n ps
+  upcoming_first n i ps e = let at = position-Some (is_proper S) ps i d e in sym (upcoming_at n i ps at.0 at.1 at.2)
+
+  pub upcoming_past : (n : ℕ) (ps : List Pair) → position (is_proper S) ps ≡ None → None ≡ upcoming S n ps
+  upcoming_past n ps e =
+      let long : length ps ≤ position_or_len (is_proper S) ps = grind (arith, common_steps) in
+      sym (upcoming_none n ps (λ k l. fails_before_first (is_proper S) ps k d (omega arith)))
 
 pub nth_left : {X : Type 0} (xs ys : List X) (i : ℕ) → i < length xs → slice_get (xs ++ ys) i ≡ slice_get xs i
 nth_left [] ys i h = absurd (omega arith)
@@ -34,33 +53,15 @@ nth_map f [] i = refl
 nth_map f (x ∷ xs) zero = refl
 nth_map f (x ∷ xs) (suc i) = nth_map f xs i
 
-module _ (S : Tables) (b : ℕ) where
-  pub ways_append : (xs ys : List Pair) → ways S (xs ++ ys) b ≡ ways S xs b ++ ways S ys b
-  ways_append [] ys = refl
-  ways_append (p ∷ xs) ys =
-      ap (λ l. one_way S p b ++ (one_way S (turned p) b ++ l)) (ways_append xs ys)
-      ∙ ap (λ l. one_way S p b ++ l) (sym (append_assoc (one_way S (turned p) b) (ways S xs b) (ways S ys b)))
-      ∙ sym (append_assoc (one_way S p b) (one_way S (turned p) b ++ ways S xs b) (ways S ys b))
+pub ways_append : (S : Tables) (b : ℕ) (xs ys : List Pair) → ways S (xs ++ ys) b ≡ ways S xs b ++ ways S ys b
+ways_append S b xs ys = ap (filter (λ p. leaves S p b)) (flat_map-append both xs ys) ∙ filter-append (λ p. leaves S p b) (flat_map both xs) (flat_map both ys)
 
-  -- the ways that are left begin with those of the pair just read, and then of the same turned round
-  module _ (ps : List Pair) (i : ℕ) (d back : Pair) (h : i < length ps) (e : back ≡ turned (get_or ps i d)) where
-    left_now : ways S (drop i ps) b ≡ one_way S (get_or ps i d) b ++ (one_way S back b ++ ways S (drop (i + 1) ps) b)
-    left_now = ap (λ l. ways S l b) (drop_more ps i d h) ∙ ap (λ p. one_way S (get_or ps i d) b ++ (one_way S p b ++ ways S (drop (i + 1) ps) b)) (sym e)
-
-    pub left_long : length (ways S (drop i ps) b) ≡ length (one_way S (get_or ps i d) b) + (length (one_way S back b) + length (ways S (drop (i + 1) ps) b))
-    left_long = ap length left_now ∙ length-append (one_way S (get_or ps i d) b) (one_way S back b ++ ways S (drop (i + 1) ps) b) ∙ ap (λ n. length (one_way S (get_or ps i d) b) + n) (length-append (one_way S back b) (ways S (drop (i + 1) ps) b))
-
-    pub in_first : (l : ℕ) (x : Pair) → slice_get (one_way S (get_or ps i d) b) l ≡ Some x → slice_get (ways S (drop i ps) b) l ≡ Some x
-    in_first l x f = ap (λ k. slice_get k l) left_now ∙ nth_keep (one_way S (get_or ps i d) b) (one_way S back b ++ ways S (drop (i + 1) ps) b) l x f
-
-    past_first : (l m : ℕ) → length (one_way S (get_or ps i d) b) ≤ l → m ≡ l - length (one_way S (get_or ps i d) b) → slice_get (ways S (drop i ps) b) l ≡ slice_get (one_way S back b ++ ways S (drop (i + 1) ps) b) m
-    past_first l m f same = ap (λ k. slice_get k l) left_now ∙ nth_skip (one_way S (get_or ps i d) b) (one_way S back b ++ ways S (drop (i + 1) ps) b) l f ∙ ap (slice_get (one_way S back b ++ ways S (drop (i + 1) ps) b)) (sym same)
-
-    pub in_second : (l m : ℕ) (x : Pair) → length (one_way S (get_or ps i d) b) ≤ l → m ≡ l - length (one_way S (get_or ps i d) b) → slice_get (one_way S back b) m ≡ Some x → slice_get (ways S (drop i ps) b) l ≡ Some x
-    in_second l m x f same g = past_first l m f same ∙ nth_keep (one_way S back b) (ways S (drop (i + 1) ps) b) m x g
-
-    pub in_third : (l m n : ℕ) → length (one_way S (get_or ps i d) b) ≤ l → m ≡ l - length (one_way S (get_or ps i d) b) → length (one_way S back b) ≤ m → n ≡ m - length (one_way S back b) → slice_get (ways S (drop (i + 1) ps) b) n ≡ slice_get (ways S (drop i ps) b) l
-    in_third l m n f same g low = sym (past_first l m f same ∙ nth_skip (one_way S back b) (ways S (drop (i + 1) ps) b) m g ∙ ap (slice_get (ways S (drop (i + 1) ps) b)) (sym low))
+pub ways_long : (S : Tables) (b : ℕ) (ps : List Pair) → length (ways S ps b) ≡ count_by (λ p. leaves S p b) ps + count_by (λ p. leaves S (turned p) b) ps
+ways_long S b ps = length-filter (λ p. leaves S p b) (flat_map both ps) ∙ go ps
+  where
+    go : (ps : List Pair) → count_by (λ p. leaves S p b) (flat_map both ps) ≡ count_by (λ p. leaves S p b) ps + count_by (λ p. leaves S (turned p) b) ps
+    go [] = refl
+    go (p ∷ ps) = let h = go ps in grind (arith, common_steps, h)
 
 pub far_at : (ps : List Pair) (i : ℕ) → offer_at (far_ends ps) i ≡ option_map (λ p. p.to) (slice_get ps i)
 far_at [] i = refl

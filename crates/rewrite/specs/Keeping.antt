@@ -1,8 +1,8 @@
 -- Each rewriter keeps the offer rules, and which are steady. The impls cite these proofs as their law, and source may name only what stands in specs.
 use Rattle.std.specs.Prelude.{◌≡◌, ℕ, suc, ◌+◌, ◌<◌, Bool, true, false, cond, not, ◌&&◌, ◌⊎◌, List, [], ◌∷◌, ◌++◌, length, drop, Some, None, Option, ◌==◌, nat_le, nat_lt, refl}
 use Rattle.std.proofs.Common.{ap, subst, inl, inr, arith, length-drop}
-use Rattle.std.specs.List.{slice_get, All}
-use Rattle.std.proofs.lemmas.List.Elements.{All-nil, All-cons, All-head, All-append, All-map, All-weaker}
+use Rattle.std.specs.List.{slice_get, All, flat_map}
+use Rattle.std.proofs.lemmas.List.Elements.{All-nil, All-cons, All-head, All-append, All-map, All-weaker, filter_passes}
 use Rattle.std.proofs.lemmas.Bool.{and_parts, ltb-true, leb-true, le-leb, cond_both}
 use Rattle.store.specs.declared.term.ENode.{ENode}
 use Rattle.store.specs.Tables.{Tables, owner_of, owner_in}
@@ -12,7 +12,7 @@ use Rattle.host.specs.Kept.{the_owner}
 use Rattle.host.specs.Reading.{is_the}
 use Rattle.rewrite.specs.declared.turn.Turn.{Turn}
 use Rattle.rewrite.specs.Meaning.{Offers, Query, RewriterMeaning, OfferRules, Proper, Steady, Over}
-use Rattle.rewrite.specs.Kinds.{is_proper, leaves, one_offer, upcoming, basic_offer, basic_next, basic, turned, one_way, ways, far_ends, complex, ends_as, live_ends, if_same, same_ends, own_or, own_next, custom, nodes_from, aside_as, aside_offer, below_or, force}
+use Rattle.rewrite.specs.Kinds.{is_proper, leaves, one_offer, upcoming, basic_offer, basic_next, basic, both, ways, far_ends, complex, ends_as, live_ends, if_same, same_ends, own_or, own_next, custom, nodes_from, aside_as, aside_offer, below_or, force}
 
 chosen : {X : Type 0} (b : Bool) (x y : X) → cond b (Some x) None ≡ Some y → (b ≡ true) × (x ≡ y)
 chosen true x y e = (refl, same_some _ x y refl e)
@@ -64,16 +64,6 @@ basic_rules ps S = record {
 }
 
 -- every pair that ComplexEq reads at b leaves from a node of b
-all_one_way : (S : Tables) (p : Pair) (b : ℕ) (t : Bool) → leaves S p b ≡ t → All (λ x. leaves S x b ≡ true) (cond t (p ∷ []) [])
-all_one_way S p b true e = All-cons (λ x. leaves S x b ≡ true) p [] e (All-nil (λ x. leaves S x b ≡ true))
-all_one_way S p b false e = All-nil (λ x. leaves S x b ≡ true)
-
-all_ways : (S : Tables) (ps : List Pair) (b : ℕ) → All (λ x. leaves S x b ≡ true) (ways S ps b)
-all_ways S [] b = All-nil (λ x. leaves S x b ≡ true)
-all_ways S (p ∷ ps) b =
-    All-append (λ x. leaves S x b ≡ true) (one_way S p b) (one_way S (turned p) b ++ ways S ps b) (all_one_way S p b (leaves S p b) refl)
-    (All-append (λ x. leaves S x b ≡ true) (one_way S (turned p) b) (ways S ps b) (all_one_way S (turned p) b (leaves S (turned p) b) refl) (all_ways S ps b))
-
 far_sound : (S : Tables) (b : ℕ) (ps : List Pair) (o : Offers) → All (λ x. leaves S x b ≡ true) ps → far_ends ps ≡ Some o → Sound S b o × (0 < length o.tos)
 far_sound S b [] o all e = absurd (some_not_none None o refl e)
 far_sound S b (p ∷ ps) o all e =
@@ -89,9 +79,9 @@ pub complex_rules : (own booked : List Pair) (S : Tables) → OfferRules S (comp
 complex_rules own booked S = record {
   first_known = refl;
   next_known = λ s q e. e;
-  from_owned = λ s q o pr e. (far_sound S q.blame (ways S (own ++ booked) q.blame) o (all_ways S (own ++ booked) q.blame) e).0.owned;
-  some_offer = λ s q o e. (far_sound S q.blame (ways S (own ++ booked) q.blame) o (all_ways S (own ++ booked) q.blame) e).1;
-  to_there = λ s q o pr e. (far_sound S q.blame (ways S (own ++ booked) q.blame) o (all_ways S (own ++ booked) q.blame) e).0.there;
+  from_owned = λ s q o pr e. (far_sound S q.blame (ways S (own ++ booked) q.blame) o (filter_passes (λ p. leaves S p q.blame) (flat_map both (own ++ booked))) e).0.owned;
+  some_offer = λ s q o e. (far_sound S q.blame (ways S (own ++ booked) q.blame) o (filter_passes (λ p. leaves S p q.blame) (flat_map both (own ++ booked))) e).1;
+  to_there = λ s q o pr e. (far_sound S q.blame (ways S (own ++ booked) q.blame) o (filter_passes (λ p. leaves S p q.blame) (flat_map both (own ++ booked))) e).0.there;
 }
 
 pub complex_steady : (own booked : List Pair) (S : Tables) → Steady (complex own booked S)

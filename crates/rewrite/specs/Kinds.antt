@@ -1,5 +1,6 @@
 -- The four rewriters.
 use Rattle.std.specs.Prelude.{ℕ, suc, Bool, true, false, cond, not, ◌&&◌, List, [], ◌∷◌, ◌++◌, map, length, drop, Some, None, Option, ◌==◌, nat_le, nat_lt}
+use Rattle.std.specs.List.{filter, flat_map}
 use Rattle.store.specs.Tables.{Tables, owner_of}
 use Rattle.request.specs.declared.kinds.Pair.{Pair}
 use Rattle.host.specs.Meaning.{HostMeaning}
@@ -52,12 +53,11 @@ basic ps S = record {
 abbrev pub turned : Pair → Pair
 turned p = record { from = p.to; to = p.from }
 
-abbrev pub one_way : Tables → Pair → ℕ → List Pair
-one_way S p b = cond (leaves S p b) (p ∷ []) []
+abbrev pub both : Pair → List Pair
+both p = p ∷ turned p ∷ []
 
 abbrev pub ways : Tables → List Pair → ℕ → List Pair
-ways S [] b = []
-ways S (p ∷ ps) b = one_way S p b ++ (one_way S (turned p) b ++ ways S ps b)
+ways S ps b = filter (λ p. leaves S p b) (flat_map both ps)
 
 -- the far ends in order, with the first near end
 abbrev pub far_ends : List Pair → Option Offers

@@ -85,7 +85,6 @@ impl<'a> EqRewriter for ComplexEq<'a> {
         mark: usize,
         idx: usize,
     ) -> Option<usize> {
-        let way = self.way(query.store, query.blame, idx)?;
-        Some(way.to)
+        self.way(query.store, query.blame, idx).map(|way| way.to)
     }
 }

@@ -1,5 +1,5 @@
 // The next logged pair whose turn it is.
-ghost use Rattle.std.specs.Prelude.{◌≡◌, ◌<◌, length, drop, IfSome};
+ghost use Rattle.std.specs.Prelude.{◌≡◌, ◌<◌, length, drop, position, IfSome};
 ghost use Rattle.host.specs.Reading.{is_the};
 ghost use Rattle.rewrite.specs.Kinds.{is_proper, upcoming};
 ghost use Rattle.store.specs.Tables.{tables, owner_of};
@@ -30,16 +30,21 @@ pub(crate) fn is_owned(store: Store, node: usize, term: usize) -> bool
     }
 }
 
+fn first_proper(store: Store, pairs: &[Pair]) -> Option<usize>
+    ensures { result ≡ position (is_proper (tables store.entry)) pairs.now }
+{
+    pairs.iter().position(|pair| is_proper(store, *pair))
+}
+
 // The first proper pair that is not passed yet.
 pub(crate) fn next_turn(store: Store, pairs: &[Pair], passed: usize) -> Option<Turn>
     ensures next { result ≡ upcoming (tables store.entry) passed (drop passed pairs.now) }
     ensures early { IfSome result (λ u. u.number < length pairs.now) }
 {
-    for number in passed..pairs.len() {
-        let pair = pairs[number];
-        if is_proper(store, pair) {
-            return Some(Turn { number, pair });
-        }
-    }
-    None
+    let left = pairs.get(passed..)?;
+    let skipped = first_proper(store, left)?;
+    Some(Turn {
+        number: passed + skipped,
+        pair: left[skipped],
+    })
 }

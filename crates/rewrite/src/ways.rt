@@ -1,6 +1,6 @@
 // A table of pairs, each read both ways.
-ghost use Rattle.std.specs.Prelude.{◌≡◌, ◌-◌, ◌*◌, ◌≤◌, length, Some, MatchBool};
-ghost use Rattle.rewrite.specs.Kinds.{leaves, turned, one_way, ways};
+ghost use Rattle.std.specs.Prelude.{◌≡◌, ◌*◌, ◌≤◌, length, count_by};
+ghost use Rattle.rewrite.specs.Kinds.{leaves, turned, both, ways};
 ghost use Rattle.std.specs.List.{slice_get};
 ghost use Rattle.store.specs.Tables.{tables};
 
@@ -23,11 +23,28 @@ fn turned(pair: Pair) -> Pair
     }
 }
 
-fn way_count(store: Store, pair: Pair, term: usize) -> usize
-    ensures count { result ≡ length (one_way (tables store.entry) pair term) }
-    ensures few { result ≤ 1 }
+fn both(pair: Pair) -> [Pair; 2]
+    ensures { result ≡ both pair }
 {
-    if leaves(store, pair, term) { 1 } else { 0 }
+    [pair, turned(pair)]
+}
+
+fn count_along(store: Store, pairs: &[Pair], term: usize) -> usize
+    ensures { result ≡ count_by (λ p. leaves (tables store.entry) p term) pairs.now }
+{
+    pairs
+        .iter()
+        .filter(|pair| leaves(store, **pair, term))
+        .count()
+}
+
+fn count_against(store: Store, pairs: &[Pair], term: usize) -> usize
+    ensures { result ≡ count_by (λ p. leaves (tables store.entry) (turned p) term) pairs.now }
+{
+    pairs
+        .iter()
+        .filter(|pair| leaves(store, turned(**pair), term))
+        .count()
 }
 
 // How many ways leave from a node of this term.
@@ -35,41 +52,17 @@ pub(crate) fn count_ways(store: Store, pairs: &[Pair], term: usize) -> usize
     ensures count { result ≡ length (ways (tables store.entry) pairs.now term) }
     ensures few { result ≤ 2 * length pairs.now }
 {
-    let mut count = 0;
-    for pair in pairs {
-        count += way_count(store, *pair, term);
-        count += way_count(store, turned(*pair), term);
-    }
-    count
-}
-
-// Whether the way sought is this one; if not, it is counted off.
-fn is_sought(store: Store, pair: Pair, term: usize, left: &mut usize) -> bool
-    ensures { MatchBool result (slice_get (one_way (tables store.entry) pair term) left.old ≡ Some pair) ((length (one_way (tables store.entry) pair term) ≤ left.old) × (left.new ≡ left.old - length (one_way (tables store.entry) pair term))) }
-{
-    if !leaves(store, pair, term) {
-        return false;
-    }
-    if *left == 0 {
-        return true;
-    }
-    *left -= 1;
-    false
+    count_along(store, pairs, term) + count_against(store, pairs, term)
 }
 
 // The way with this number that leaves from a node of this term.
 pub(crate) fn nth_way(store: Store, pairs: &[Pair], term: usize, idx: usize) -> Option<Pair>
     ensures { result ≡ slice_get (ways (tables store.entry) pairs.now term) idx }
 {
-    let mut left = idx;
-    for pair in pairs {
-        if is_sought(store, *pair, term, &mut left) {
-            return Some(*pair);
-        }
-        let back = turned(*pair);
-        if is_sought(store, back, term, &mut left) {
-            return Some(back);
-        }
-    }
-    None
+    pairs
+        .iter()
+        .copied()
+        .flat_map(both)
+        .filter(|pair| leaves(store, *pair, term))
+        .nth(idx)
 }
