@@ -36,18 +36,6 @@ module _ (S : Tables) (d : Pair) where
       let long : length ps ≤ position_or_len (is_proper S) ps = grind (arith, common_steps) in
       sym (upcoming_none n ps (λ k l. fails_before_first (is_proper S) ps k d (omega arith)))
 
-pub nth_left : {X : Type 0} (xs ys : List X) (i : ℕ) → i < length xs → slice_get (xs ++ ys) i ≡ slice_get xs i
-nth_left [] ys i h = absurd (omega arith)
-nth_left (y ∷ xs) ys zero h = refl
-nth_left (y ∷ xs) ys (suc i) h = nth_left xs ys i (omega arith)
-
-pub nth_skip : {X : Type 0} (xs ys : List X) (i : ℕ) → length xs ≤ i → slice_get (xs ++ ys) i ≡ slice_get ys (i - length xs)
-nth_skip [] ys i h = ap (slice_get ys) (sym (sub-zero i))
-nth_skip (y ∷ xs) ys zero h = absurd (omega arith)
-nth_skip (y ∷ xs) ys (suc i) h =
-    let same : i - length xs ≡ suc i - suc (length xs) = omega arith in
-    nth_skip xs ys i (omega arith) ∙ ap (slice_get ys) same
-
 pub nth_map : {X Y : Type 0} (f : X → Y) (xs : List X) (i : ℕ) → slice_get (map f xs) i ≡ option_map f (slice_get xs i)
 nth_map f [] i = refl
 nth_map f (x ∷ xs) zero = refl

@@ -10,7 +10,7 @@ use crate::coupling::Coupling;
 use crate::offered::Offered;
 use crate::query::Query;
 use crate::rewriter::EqRewriter;
-use crate::ways::{count_ways, nth_way};
+use crate::ways::{both, count_ways, leaves};
 use host::Host;
 use request::Pair;
 use store::Store;
@@ -34,11 +34,13 @@ impl<'a> ComplexEq<'a> {
     fn way(self, store: Store, term: usize, idx: usize) -> Option<Pair>
         ensures { result ≡ slice_get (ways (tables store.entry) (self.entry.own.now ++ self.entry.booked.now) term) idx }
     {
-        let first = count_ways(store, self.own, term);
-        if idx < first {
-            return nth_way(store, self.own, term, idx);
-        }
-        nth_way(store, self.booked, term, idx - first)
+        self.own
+            .iter()
+            .chain(self.booked)
+            .copied()
+            .flat_map(both)
+            .filter(|pair| leaves(store, *pair, term))
+            .nth(idx)
     }
 }
 

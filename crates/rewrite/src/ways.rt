@@ -1,14 +1,14 @@
 // A table of pairs, each read both ways.
 ghost use Rattle.std.specs.Prelude.{◌≡◌, ◌*◌, ◌≤◌, length, count_by};
 ghost use Rattle.rewrite.specs.Kinds.{leaves, turned, both, ways};
-ghost use Rattle.std.specs.List.{slice_get};
 ghost use Rattle.store.specs.Tables.{tables};
 
 use crate::turn::{is_owned, is_proper};
 use request::Pair;
 use store::Store;
 
-fn leaves(store: Store, pair: Pair, term: usize) -> bool
+// Whether it is a proper pair that leaves from a node of this term.
+pub(crate) fn leaves(store: Store, pair: Pair, term: usize) -> bool
     ensures { result ≡ leaves (tables store.entry) pair term }
 {
     is_proper(store, pair) && is_owned(store, pair.from, term)
@@ -23,7 +23,8 @@ fn turned(pair: Pair) -> Pair
     }
 }
 
-fn both(pair: Pair) -> [Pair; 2]
+// A pair and the same turned round.
+pub(crate) fn both(pair: Pair) -> [Pair; 2]
     ensures { result ≡ both pair }
 {
     [pair, turned(pair)]
@@ -53,16 +54,4 @@ pub(crate) fn count_ways(store: Store, pairs: &[Pair], term: usize) -> usize
     ensures few { result ≤ 2 * length pairs.now }
 {
     count_along(store, pairs, term) + count_against(store, pairs, term)
-}
-
-// The way with this number that leaves from a node of this term.
-pub(crate) fn nth_way(store: Store, pairs: &[Pair], term: usize, idx: usize) -> Option<Pair>
-    ensures { result ≡ slice_get (ways (tables store.entry) pairs.now term) idx }
-{
-    pairs
-        .iter()
-        .copied()
-        .flat_map(both)
-        .filter(|pair| leaves(store, *pair, term))
-        .nth(idx)
 }

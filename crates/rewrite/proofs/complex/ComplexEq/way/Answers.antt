@@ -1,23 +1,20 @@
-use Rattle.std.proofs.Common.{◌-◌, sym, ap, ◌∙◌, arith}
-use Rattle.std.specs.List.{slice_get}
+use Rattle.std.proofs.Common.{◌≡◌, rules, sym, subst, ◌∙◌}
+use Rattle.std.specs.Array.Iter.{array_into_iter_items}
+use Rattle.std.proofs.lemmas.Iterator.{YieldsList, YieldsList-from_slice}
+use Rattle.std.proofs.lemmas.Iterator.Adapters.{YieldsList-from_flat_map, option_map_id}
+use Rattle.std.proofs.lemmas.Iterator.Consumers.{YieldsList-at, YieldsList-from_chain, YieldsList-from_copied, YieldsList-from_filter, YieldsList-from_shown, nth_from_yields_List}
+use borrow.Author.Tests.{tests}
 use Rattle.store.specs.Tables.{tables}
-use Rattle.rewrite.specs.Kinds.{ways}
-use Rattle.rewrite.proofs.Numbering.{nth_left, nth_skip, ways_append}
+use Rattle.rewrite.specs.Kinds.{leaves, both}
 use Rattle.rewrite.proofs.complex.ComplexEq.way.Goals as goal
-
-pub returns-then-idx-first : goal.returns-then-idx-first
-returns-then-idx-first c =
-    let S = tables c.args.store in
-    let own = ways S c.args.self.own.now c.args.term in
-    let booked = ways S c.args.self.booked.now c.args.term in
-    c.nth_way.ensures ∙ sym (nth_left own booked c.args.idx (omega (arith, c.count_ways-first.ensures.count)))
-    ∙ ap (λ l. slice_get l c.args.idx) (sym (ways_append S c.args.term c.args.self.own.now c.args.self.booked.now))
 
 pub returns : goal.returns
 returns c =
-    let S = tables c.args.store in
-    let own = ways S c.args.self.own.now c.args.term in
-    let booked = ways S c.args.self.booked.now c.args.term in
-    c.nth_way-2.ensures ∙ ap (λ n. slice_get booked (c.args.idx - n)) c.count_ways-first.ensures.count
-    ∙ sym (nth_skip own booked c.args.idx (omega (arith, c.count_ways-first.ensures.count)))
-    ∙ ap (λ l. slice_get l c.args.idx) (sym (ways_append S c.args.term c.args.self.own.now c.args.self.booked.now))
+    sym (option_map_id c.nth.result) ∙ nth_from_yields_List _ _ _ c.nth.ensures.ran
+    (YieldsList-from_filter _ (λ p. leaves (tables c.args.store) p c.args.term)
+    (YieldsList-at c.filter.ensures.source
+    (YieldsList-from_flat_map _ _ _ (λ x. x) both _
+    (λ x u q k. (search rules, λ j b. subst (YieldsList _ (λ x. x) j) (b.0 ∙ search rules) (YieldsList-from_shown _ (λ x. x) array_into_iter_items (λ s t h. h.0) (λ s x t h. h) j)))
+    (YieldsList-at c.flat_map.ensures.source (YieldsList-from_copied (YieldsList-at c.copied.ensures.source (YieldsList-from_chain (YieldsList-from_slice c.args.self.own.now (cc)) (YieldsList-from_slice c.args.self.booked.now (cc)) (cc) (cc))))) c.flat_map.ensures.closure c.flat_map.ensures.front c.flat_map.ensures.back c.flat_map.ensures.done))
+    c.filter.ensures.closure
+    (λ x r q k. (search rules, subst (λ y. r ≡ leaves (tables c.args.store) y c.args.term) k.shows (search rules))))
