@@ -1,6 +1,5 @@
 -- Pairs by their number: the next one, and those that are read both ways.
 use Rattle.std.proofs.Common.{◌≡◌, ℕ, zero, suc, ◌+◌, ◌-◌, ◌<◌, ◌≤◌, true, false, List, [], ◌∷◌, ◌++◌, map, length, get_or, drop, is_some, Some, None, Option, sym, refl, ap, ◌∙◌, append_assoc, arith, length-append}
-use native.Mathlib.Nat.{sub-zero}
 use lib.ListN.{length-map}
 use Rattle.std.specs.List.{slice_get, filter, flat_map, count_by, position, position_or_len}
 use Rattle.std.proofs.lemmas.List.Concat.{flat_map-append}
@@ -8,13 +7,13 @@ use Rattle.std.proofs.lemmas.List.Elements.{filter-append}
 use Rattle.std.proofs.lemmas.List.Sums.{length-filter, fails_before_first}
 use Rattle.std.proofs.lemmas.Grind.{common_steps}
 use Rattle.std.specs.Option.{option_map}
-use Rattle.std.proofs.lemmas.List.{drop_more}
 use Rattle.std.proofs.lemmas.Bool.{true≢false, cond-true, cond-false}
 use Rattle.std.proofs.lemmas.List.Quantifiers.{position-Some}
 use Rattle.store.specs.Tables.{Tables}
 use Rattle.store.proofs.Decided.{some_not_none, same_some}
 use Rattle.request.specs.declared.kinds.Pair.{Pair}
-use Rattle.rewrite.specs.Kinds.{is_proper, upcoming, leaves, turned, both, ways, far_ends, own_or, below_or, nodes_from, aside_as, from_of}
+use Rattle.request.specs.Pairs.{is_proper}
+use Rattle.rewrite.specs.Kinds.{upcoming, leaves, turned, both, ways, far_ends, own_or, below_or, nodes_from, aside_as, from_of}
 use Rattle.rewrite.specs.Meaning.{Offers, counted, offer_at}
 
 -- the pair whose turn it is, by its place among those that are left

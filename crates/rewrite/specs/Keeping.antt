@@ -5,14 +5,14 @@ use Rattle.std.specs.List.{slice_get, All, flat_map}
 use Rattle.std.proofs.lemmas.List.Elements.{All-nil, All-cons, All-head, All-append, All-map, All-weaker, filter_passes}
 use Rattle.std.proofs.lemmas.Bool.{and_parts, ltb-true, leb-true, le-leb, cond_both}
 use Rattle.store.specs.declared.term.ENode.{ENode}
-use Rattle.store.specs.Tables.{Tables, owner_of, owner_in}
+use Rattle.store.specs.Tables.{Tables, is_the, owner_of, owner_in}
 use Rattle.store.proofs.Decided.{some_not_none, same_some, nth_inside}
 use Rattle.request.specs.declared.kinds.Pair.{Pair}
+use Rattle.request.specs.Pairs.{is_proper}
 use Rattle.host.specs.Kept.{the_owner}
-use Rattle.host.specs.Reading.{is_the}
 use Rattle.rewrite.specs.declared.turn.Turn.{Turn}
 use Rattle.rewrite.specs.Meaning.{Offers, Query, RewriterMeaning, OfferRules, Proper, Steady, Over}
-use Rattle.rewrite.specs.Kinds.{is_proper, leaves, one_offer, upcoming, basic_offer, basic_next, basic, both, ways, far_ends, complex, ends_as, live_ends, if_same, same_ends, own_or, own_next, custom, nodes_from, aside_as, aside_offer, below_or, force}
+use Rattle.rewrite.specs.Kinds.{leaves, one_offer, upcoming, basic_offer, basic_next, basic, both, ways, far_ends, complex, ends_as, live_ends, if_same, same_ends, own_or, own_next, custom, nodes_from, aside_as, aside_offer, below_or, force}
 
 chosen : {X : Type 0} (b : Bool) (x y : X) → cond b (Some x) None ≡ Some y → (b ≡ true) × (x ≡ y)
 chosen true x y e = (refl, same_some _ x y refl e)

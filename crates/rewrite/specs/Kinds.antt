@@ -1,19 +1,15 @@
 -- The four rewriters.
 use Rattle.std.specs.Prelude.{ℕ, suc, Bool, true, false, cond, not, ◌&&◌, List, [], ◌∷◌, ◌++◌, map, length, drop, Some, None, Option, ◌==◌, nat_le, nat_lt}
 use Rattle.std.specs.List.{filter, flat_map}
-use Rattle.store.specs.Tables.{Tables, owner_of}
+use Rattle.store.specs.Tables.{Tables, is_the, owner_of}
 use Rattle.request.specs.declared.kinds.Pair.{Pair}
+use Rattle.request.specs.Pairs.{is_proper}
 use Rattle.host.specs.Meaning.{HostMeaning}
-use Rattle.host.specs.Reading.{is_the}
 use Rattle.rewrite.specs.declared.coupling.Coupling.TheVariants.{Exact, SwappedEqs, MissingEqs, AddedEqs}
 use Rattle.rewrite.specs.declared.turn.Turn.{Turn}
 use Rattle.rewrite.specs.Meaning.{Offers, Query, RewriterMeaning}
 
--- a pair of two nodes of the store; any other is passed over
-abbrev pub is_proper : Tables → Pair → Bool
-is_proper S p = not (p.from == p.to) && (nat_lt p.from (length S.nodes) && nat_lt p.to (length S.nodes))
-
--- a proper pair that leaves from a node of term b
+-- a proper pair that leaves from a node of term b; one that is not proper is passed over
 abbrev pub leaves : Tables → Pair → ℕ → Bool
 leaves S p b = is_proper S p && is_the (owner_of S p.from) b
 

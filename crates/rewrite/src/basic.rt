@@ -7,7 +7,7 @@ use crate::coupling::Coupling;
 use crate::offered::Offered;
 use crate::query::Query;
 use crate::rewriter::EqRewriter;
-use crate::turn::{is_owned, next_turn};
+use crate::turn::next_turn;
 use host::Host;
 use request::Pair;
 use store::Store;
@@ -60,7 +60,7 @@ impl<'a> EqRewriter for BasicEq<'a> {
 
     fn possible_rewrite_count<H: Host>(&mut self, query: &Query<'_, H>) -> Option<Offered> {
         let turn = next_turn(query.store, self.pairs, self.at)?;
-        if !is_owned(query.store, turn.pair.from, query.blame) {
+        if !query.store.is_owned(turn.pair.from, query.blame) {
             return None;
         }
         self.at = turn.number + 1;
@@ -77,6 +77,6 @@ impl<'a> EqRewriter for BasicEq<'a> {
         idx: usize,
     ) -> Option<usize> {
         let turn = next_turn(query.store, self.pairs, mark)?;
-        (idx == 0 && is_owned(query.store, turn.pair.from, query.blame)).then_some(turn.pair.to)
+        (idx == 0 && query.store.is_owned(turn.pair.from, query.blame)).then_some(turn.pair.to)
     }
 }

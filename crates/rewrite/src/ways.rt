@@ -3,7 +3,6 @@ ghost use Rattle.std.specs.Prelude.{◌≡◌, ◌*◌, ◌≤◌, length, count
 ghost use Rattle.rewrite.specs.Kinds.{leaves, turned, both, ways};
 ghost use Rattle.store.specs.Tables.{tables};
 
-use crate::turn::{is_owned, is_proper};
 use request::Pair;
 use store::Store;
 
@@ -11,7 +10,7 @@ use store::Store;
 pub(crate) fn leaves(store: Store, pair: Pair, term: usize) -> bool
     ensures { result ≡ leaves (tables store.entry) pair term }
 {
-    is_proper(store, pair) && is_owned(store, pair.from, term)
+    pair.is_proper(store) && store.is_owned(pair.from, term)
 }
 
 fn turned(pair: Pair) -> Pair

@@ -1,6 +1,7 @@
 use Rattle.std.proofs.Common.{◌≡◌, drop, arith, position, None, Some, rules, ap, ◌∙◌}
 use Rattle.std.proofs.lemmas.Grind.{common_steps}
-use Rattle.rewrite.specs.Kinds.{is_proper, upcoming}
+use Rattle.request.specs.Pairs.{is_proper}
+use Rattle.rewrite.specs.Kinds.{upcoming}
 use Rattle.rewrite.proofs.Numbering.{upcoming_first, upcoming_past}
 use Rattle.store.specs.Tables.{tables}
 use Rattle.rewrite.proofs.turn.next_turn.Goals as goal
