@@ -63,38 +63,21 @@ far_some [] p e = absurd (some_not_none None p refl e)
 far_some (x ∷ ps) p e = let same = same_some _ x p refl e in λ i. Some (record { from = (same i).from; count = length-map (x ∷ ps) (λ y. y.to) i })
 
 -- an offer of ForceEq where neither its own pair nor what is below offers
-module _ (r : Option Pair) (o : Option Offers) (a b : Option ℕ) (ns : List ℕ) (i : ℕ) (none-own : None ≡ r) (some-low : (x : Offers) → o ≡ Some x → 0 < length x.tos) (none-low : is_some (offer_at o 0) ≡ false) where
-  low_is_none : (o : Option Offers) → ((x : Offers) → o ≡ Some x → 0 < length x.tos) → is_some (offer_at o 0) ≡ false → o ≡ None
-  low_is_none None h e = refl
-  low_is_none (Some x) h e = absurd (go x.tos (h x refl) e)
-    where
-      go : (xs : List ℕ) → 0 < length xs → is_some (slice_get xs 0) ≡ false → ⊥
-      go [] l f = omega arith
-      go (y ∷ ys) l f = true≢false f
+pub low_none : (o : Option Offers) → ((x : Offers) → o ≡ Some x → 0 < length x.tos) → is_some (offer_at o 0) ≡ false → o ≡ None
+low_none None h e = refl
+low_none (Some x) h e = first x.tos (h x refl) e
+  where
+    first : (ns : List ℕ) → 0 < length ns → is_some (slice_get ns 0) ≡ false → Some x ≡ None
+    first [] l f = absurd (omega arith)
+    first (n ∷ ns) l f = cc
 
-  only_aside : own_or r (below_or o (aside_as a b ns)) ≡ aside_as a b ns
-  only_aside = ap (λ p. own_or p (below_or o (aside_as a b ns))) (sym none-own) ∙ ap (λ x. below_or x (aside_as a b ns)) (low_is_none o some-low none-low)
+pub only_aside : (r : Option Pair) (o x : Option Offers) → None ≡ r → o ≡ None → own_or r (below_or o x) ≡ x
+only_aside None None x e f = refl
+only_aside None (Some y) x e f = cc
+only_aside (Some p) o x e f = cc
 
-  nodes_none : (n : ℕ) (ns : List ℕ) → None ≡ from_of (nodes_from n ns) → offer_at (nodes_from n ns) i ≡ None
-  nodes_none n [] e = refl
-  nodes_none n (x ∷ ns) e = absurd (some_not_none _ n e refl)
-
-  as_none : (a b : Option ℕ) → None ≡ from_of (aside_as a b ns) → offer_at (aside_as a b ns) i ≡ None
-  as_none None b e = refl
-  as_none (Some n) None e = nodes_none n ns e
-  as_none (Some n) (Some m) e = refl
-
-  nodes_at : (n m : ℕ) (ns : List ℕ) → Some m ≡ from_of (nodes_from n ns) → offer_at (nodes_from n ns) i ≡ slice_get ns i
-  nodes_at n m [] e = absurd (some_not_none _ m refl (sym e))
-  nodes_at n m (x ∷ ns) e = refl
-
-  as_at : (a b : Option ℕ) (m : ℕ) → Some m ≡ from_of (aside_as a b ns) → offer_at (aside_as a b ns) i ≡ slice_get ns i
-  as_at None b m e = absurd (some_not_none _ m refl (sym e))
-  as_at (Some n) None m e = nodes_at n m ns e
-  as_at (Some n) (Some k) m e = absurd (some_not_none _ m refl (sym e))
-
-  pub aside_none : None ≡ from_of (aside_as a b ns) → offer_at (own_or r (below_or o (aside_as a b ns))) i ≡ None
-  aside_none e = ap (λ x. offer_at x i) only_aside ∙ as_none a b e
-
-  pub aside_at : (m : ℕ) → Some m ≡ from_of (aside_as a b ns) → offer_at (own_or r (below_or o (aside_as a b ns))) i ≡ slice_get ns i
-  aside_at m e = ap (λ x. offer_at x i) only_aside ∙ as_at a b m e
+pub aside_at : (a b : Option ℕ) (ns : List ℕ) (i n : ℕ) → Some n ≡ from_of (aside_as a b ns) → offer_at (aside_as a b ns) i ≡ slice_get ns i
+aside_at None b ns i n e = cc
+aside_at (Some m) None [] i n e = refl
+aside_at (Some m) None (x ∷ ns) i n e = refl
+aside_at (Some m) (Some k) ns i n e = cc

@@ -11,6 +11,7 @@ use crate::rewriter::EqRewriter;
 use host::Host;
 use store::{Store, lookup};
 
+// Four methods hand on to what is below, here and in CustomEq: one struct for both would need a trait for the four that differ.
 #[derive(Drop)]
 pub struct ForceEq<R: EqRewriter> {
     inner: R,
@@ -87,7 +88,7 @@ impl<R: EqRewriter> EqRewriter for ForceEq<R> {
         if self.inner.possible_rewrite(query, mark, 0).is_some() {
             return self.inner.possible_rewrite(query, mark, idx);
         }
-        let _from = query.aside_from()?;
+        query.aside_from()?;
         lookup(query.aside, idx)
     }
 }

@@ -32,9 +32,8 @@ impl<'a, H: Host> Query<'a, H> {
         ensures { result ≡ same_ends (meant H.Host.meaning self.now) }
     {
         let ends = self.live_ends()?;
-        self.host
-            .check_eq(self.store, ends.from, ends.to)
-            .then_some(ends)
+        let is_same = self.host.check_eq(self.store, ends.from, ends.to);
+        is_same.then_some(ends)
     }
 
     // The live node of the term, if the set-aside nodes are offered from it: some are, and the pattern term is not live.
