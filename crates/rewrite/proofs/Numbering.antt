@@ -1,5 +1,5 @@
 -- Pairs by their number: the next one, and those that are read both ways.
-use Rattle.std.proofs.Common.{◌≡◌, ℕ, zero, suc, ◌+◌, ◌-◌, ◌<◌, ◌≤◌, true, false, List, [], ◌∷◌, ◌++◌, map, length, get_or, drop, is_some, Some, None, Option, sym, refl, ap, ◌∙◌, append_assoc, arith, length-append}
+use Rattle.std.proofs.Common.{◌≡◌, ℕ, zero, suc, ◌+◌, ◌<◌, ◌≤◌, true, false, List, [], ◌∷◌, ◌++◌, length, get_or, is_some, Some, None, Option, sym, refl, ap, ◌∙◌, arith}
 use lib.ListN.{length-map}
 use Rattle.std.specs.List.{slice_get, filter, flat_map, count_by, position, position_or_len}
 use Rattle.std.proofs.lemmas.List.Concat.{flat_map-append}
@@ -7,13 +7,13 @@ use Rattle.std.proofs.lemmas.List.Elements.{filter-append}
 use Rattle.std.proofs.lemmas.List.Sums.{length-filter, fails_before_first}
 use Rattle.std.proofs.lemmas.Grind.{common_steps}
 use Rattle.std.specs.Option.{option_map}
-use Rattle.std.proofs.lemmas.Bool.{true≢false, cond-true, cond-false}
+use Rattle.std.proofs.lemmas.Bool.{cond-true, cond-false}
 use Rattle.std.proofs.lemmas.List.Quantifiers.{position-Some}
 use Rattle.store.specs.Tables.{Tables}
-use Rattle.store.proofs.Decided.{some_not_none, same_some}
+use Rattle.std.proofs.lemmas.Option.{same_Some, slice_get-map}
 use Rattle.request.specs.declared.kinds.Pair.{Pair}
 use Rattle.request.specs.Pairs.{is_proper}
-use Rattle.rewrite.specs.Kinds.{upcoming, leaves, turned, both, ways, far_ends, own_or, below_or, nodes_from, aside_as, from_of}
+use Rattle.rewrite.specs.Kinds.{upcoming, leaves, turned, both, ways, far_ends, own_or, below_or, aside_as, from_of}
 use Rattle.rewrite.specs.Meaning.{Offers, counted, offer_at}
 
 -- the pair whose turn it is, by its place among those that are left
@@ -35,11 +35,6 @@ module _ (S : Tables) (d : Pair) where
       let long : length ps ≤ position_or_len (is_proper S) ps = grind (arith, common_steps) in
       sym (upcoming_none n ps (λ k l. fails_before_first (is_proper S) ps k d (omega arith)))
 
-pub nth_map : {X Y : Type 0} (f : X → Y) (xs : List X) (i : ℕ) → slice_get (map f xs) i ≡ option_map f (slice_get xs i)
-nth_map f [] i = refl
-nth_map f (x ∷ xs) zero = refl
-nth_map f (x ∷ xs) (suc i) = nth_map f xs i
-
 pub ways_append : (S : Tables) (b : ℕ) (xs ys : List Pair) → ways S (xs ++ ys) b ≡ ways S xs b ++ ways S ys b
 ways_append S b xs ys = ap (filter (λ p. leaves S p b)) (flat_map-append both xs ys) ∙ filter-append (λ p. leaves S p b) (flat_map both xs) (flat_map both ys)
 
@@ -52,15 +47,11 @@ ways_long S b ps = length-filter (λ p. leaves S p b) (flat_map both ps) ∙ go 
 
 pub far_at : (ps : List Pair) (i : ℕ) → offer_at (far_ends ps) i ≡ option_map (λ p. p.to) (slice_get ps i)
 far_at [] i = refl
-far_at (p ∷ ps) i = nth_map (λ x. x.to) (p ∷ ps) i
-
-pub far_none : (ps : List Pair) → slice_get ps 0 ≡ None → counted (far_ends ps) ≡ None
-far_none [] e = refl
-far_none (p ∷ ps) e = absurd (some_not_none _ p (sym e) refl)
+far_at (p ∷ ps) i = slice_get-map (λ x. x.to) (p ∷ ps) i
 
 pub far_some : (ps : List Pair) (p : Pair) → slice_get ps 0 ≡ Some p → counted (far_ends ps) ≡ Some (record { from = p.from; count = length ps })
-far_some [] p e = absurd (some_not_none None p refl e)
-far_some (x ∷ ps) p e = let same = same_some _ x p refl e in λ i. Some (record { from = (same i).from; count = length-map (x ∷ ps) (λ y. y.to) i })
+far_some [] p e = cc
+far_some (x ∷ ps) p e = let same = same_Some x p e in λ i. Some (record { from = (same i).from; count = length-map (x ∷ ps) (λ y. y.to) i })
 
 -- an offer of ForceEq where neither its own pair nor what is below offers
 pub low_none : (o : Option Offers) → ((x : Offers) → o ≡ Some x → 0 < length x.tos) → is_some (offer_at o 0) ≡ false → o ≡ None

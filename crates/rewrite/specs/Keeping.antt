@@ -2,21 +2,17 @@
 use Rattle.std.specs.Prelude.{◌≡◌, ℕ, suc, ◌+◌, ◌<◌, Bool, true, false, cond, not, ◌&&◌, ◌⊎◌, List, [], ◌∷◌, ◌++◌, length, drop, Some, None, Option, ◌==◌, nat_le, nat_lt, refl}
 use Rattle.std.proofs.Common.{ap, subst, inl, inr, arith, length-drop}
 use Rattle.std.specs.List.{slice_get, All, flat_map}
-use Rattle.std.proofs.lemmas.List.Elements.{All-nil, All-cons, All-head, All-append, All-map, All-weaker, filter_passes}
+use Rattle.std.proofs.lemmas.List.Elements.{All-nil, All-cons, All-head, All-map, All-weaker, filter_passes}
+use Rattle.std.proofs.lemmas.Option.{cond_some, same_Some, slice_get_within}
 use Rattle.std.proofs.lemmas.Bool.{and_parts, ltb-true, leb-true, le-leb, cond_both}
 use Rattle.store.specs.declared.term.ENode.{ENode}
 use Rattle.store.specs.Tables.{Tables, is_the, owner_of, owner_in}
-use Rattle.store.proofs.Decided.{some_not_none, same_some, nth_inside}
 use Rattle.request.specs.declared.kinds.Pair.{Pair}
 use Rattle.request.specs.Pairs.{is_proper}
 use Rattle.host.specs.Kept.{the_owner}
 use Rattle.rewrite.specs.declared.turn.Turn.{Turn}
 use Rattle.rewrite.specs.Meaning.{Offers, Query, RewriterMeaning, OfferRules, Proper, Steady, Over}
 use Rattle.rewrite.specs.Kinds.{leaves, one_offer, upcoming, basic_offer, basic_next, basic, both, ways, far_ends, complex, ends_as, live_ends, if_same, same_ends, own_or, own_next, custom, nodes_from, aside_as, aside_offer, below_or, force}
-
-chosen : {X : Type 0} (b : Bool) (x y : X) → cond b (Some x) None ≡ Some y → (b ≡ true) × (x ≡ y)
-chosen true x y e = (refl, same_some _ x y refl e)
-chosen false x y e = absurd (some_not_none None y refl e)
 
 pub to_node : (S : Tables) (p : Pair) → is_proper S p ≡ true → p.to < length S.nodes
 to_node S p e =
@@ -29,11 +25,11 @@ record Due (S : Tables) (n m : ℕ) (u : Turn) : Type 0 where
   early : u.number < n + m
 
 due_as : (S : Tables) (n m : ℕ) (p : Pair) (later : Option Turn) (u : Turn) (b : Bool) → is_proper S p ≡ b → cond b (Some (record { number = n; pair = p })) later ≡ Some u → (later ≡ Some u → Due S (suc n) m u) → Due S n (suc m) u
-due_as S n m p later u true f e on = subst (Due S n (suc m)) (same_some _ _ u refl e) (record { proper = f; early = omega arith })
+due_as S n m p later u true f e on = subst (Due S n (suc m)) (same_Some _ u e) (record { proper = f; early = omega arith })
 due_as S n m p later u false f e on = let d = on e in record { proper = d.proper; early = omega (arith, d.early) }
 
 due : (S : Tables) (n : ℕ) (ps : List Pair) (u : Turn) → upcoming S n ps ≡ Some u → Due S n (length ps) u
-due S n [] u e = absurd (some_not_none None u refl e)
+due S n [] u e = cc
 due S n (p ∷ ps) u e = due_as S n (length ps) p (upcoming S (suc n) ps) u (is_proper S p) refl e (λ f. due S (suc n) ps u f)
 
 -- what an answer's offers keep
@@ -45,9 +41,9 @@ one_sound : (S : Tables) (b : ℕ) (p : Pair) (o : Offers) → is_the (owner_of 
 one_sound S b p o e h same = subst (Sound S b) same (record { owned = the_owner (owner_of S p.from) b e; there = All-cons (λ n. n < length S.nodes) p.to [] h (All-nil (λ n. n < length S.nodes)) })
 
 basic_sound : (S : Tables) (b : ℕ) (r : Option Turn) (o : Offers) → ((u : Turn) → r ≡ Some u → is_proper S u.pair ≡ true) → basic_offer S b r ≡ Some o → Sound S b o × (0 < length o.tos)
-basic_sound S b None o h e = absurd (some_not_none None o refl e)
+basic_sound S b None o h e = cc
 basic_sound S b (Some u) o h e =
-    let c = chosen (is_the (owner_of S u.pair.from) b) (one_offer u.pair) o e in
+    let c = cond_some (is_the (owner_of S u.pair.from) b) (one_offer u.pair) o e in
     (one_sound S b u.pair o c.0 (to_node S u.pair (h u refl)) c.1, subst (λ x. 0 < length x.tos) c.1 (omega arith))
 
 basic_known : (S : Tables) (b s n : ℕ) (r : Option Turn) → ((u : Turn) → r ≡ Some u → u.number < n) → nat_le s n ≡ true → nat_le (basic_next S b s r) n ≡ true
@@ -65,9 +61,9 @@ basic_rules ps S = record {
 
 -- every pair that ComplexEq reads at b leaves from a node of b
 far_sound : (S : Tables) (b : ℕ) (ps : List Pair) (o : Offers) → All (λ x. leaves S x b ≡ true) ps → far_ends ps ≡ Some o → Sound S b o × (0 < length o.tos)
-far_sound S b [] o all e = absurd (some_not_none None o refl e)
+far_sound S b [] o all e = cc
 far_sound S b (p ∷ ps) o all e =
-    let same = same_some _ _ o refl e in (
+    let same = same_Some _ o e in (
       subst (Sound S b) same (record {
         owned = the_owner (owner_of S p.from) b (and_parts (is_proper S p) (is_the (owner_of S p.from) b) (All-head (λ x. leaves S x b ≡ true) p ps all)).1;
         there = All-map (λ n. n < length S.nodes) (λ x. x.to) (p ∷ ps) (All-weaker (λ x. leaves S x b ≡ true) (λ x. x.to < length S.nodes) (λ x l. to_node S x (and_parts (is_proper S x) (is_the (owner_of S x.from) b) l).0) (p ∷ ps) all);
@@ -92,34 +88,34 @@ abbrev Joins : Query → Option Pair → Type 0
 Joins q r = (p : Pair) → r ≡ Some p → (q.host.live q.blame ≡ Some p.from) × (q.host.live q.subpat ≡ Some p.to)
 
 ends_join : (a b : Option ℕ) (p : Pair) → ends_as a b ≡ Some p → (a ≡ Some p.from) × (b ≡ Some p.to)
-ends_join None b p e = absurd (some_not_none None p refl e)
-ends_join (Some n) None p e = absurd (some_not_none None p refl e)
-ends_join (Some n) (Some m) p e = let same = same_some _ _ p refl e in (ap (λ x. Some x.from) same, ap (λ x. Some x.to) same)
+ends_join None b p e = cc
+ends_join (Some n) None p e = cc
+ends_join (Some n) (Some m) p e = let same = same_Some _ p e in (ap (λ x. Some x.from) same, ap (λ x. Some x.to) same)
 
 live_join : (q : Query) → Joins q (live_ends q)
 live_join q p e = ends_join (q.host.live q.blame) (q.host.live q.subpat) p e
 
 same_join : (q : Query) (r : Option Pair) → Joins q r → Joins q (if_same q.host r)
-same_join q None h p e = absurd (some_not_none None p refl e)
-same_join q (Some x) h p e = let c = chosen (q.host.loose x.from x.to) x p e in h p (ap Some c.1)
+same_join q None h p e = cc
+same_join q (Some x) h p e = let c = cond_some (q.host.loose x.from x.to) x p e in h p (ap Some c.1)
 
 owner_inside : (S : Tables) (n t : ℕ) (o : Option ENode) → slice_get S.nodes n ≡ o → owner_in o ≡ Some t → n < length S.nodes
-owner_inside S n t None e f = absurd (some_not_none None t refl f)
-owner_inside S n t (Some x) e f = nth_inside S.nodes n x e
+owner_inside S n t None e f = cc
+owner_inside S n t (Some x) e f = slice_get_within S.nodes n x e
 
 own_sound : (S : Tables) (q : Query) (r : Option Pair) (below : Option Offers) (o : Offers) → Proper S q → Joins q r → (below ≡ Some o → Sound S q.blame o) → own_or r below ≡ Some o → Sound S q.blame o
 own_sound S q None below o pr h low e = low e
 own_sound S q (Some p) below o pr h low e =
     let j = h p refl in
     let rules = pr.host_ruled in
-    subst (Sound S q.blame) (same_some _ _ o refl e) (record {
+    subst (Sound S q.blame) (same_Some _ o e) (record {
       owned = rules.live_owned q.blame p.from j.0;
       there = All-cons (λ n. n < length S.nodes) p.to [] (owner_inside S p.to q.subpat (slice_get S.nodes p.to) refl (rules.live_owned q.subpat p.to j.1)) (All-nil (λ n. n < length S.nodes));
     })
 
 own_some : (r : Option Pair) (below : Option Offers) (o : Offers) → (below ≡ Some o → 0 < length o.tos) → own_or r below ≡ Some o → 0 < length o.tos
 own_some None below o low e = low e
-own_some (Some p) below o low e = subst (λ x. 0 < length x.tos) (same_some _ _ o refl e) (omega arith)
+own_some (Some p) below o low e = subst (λ x. 0 < length x.tos) (same_Some _ o e) (omega arith)
 
 own_known : (ρ : RewriterMeaning) (r : Option Pair) (s n : ℕ) → ρ.known s ≡ true → ρ.known n ≡ true → ρ.known (own_next r s n) ≡ true
 own_known ρ None s n e f = f
@@ -147,24 +143,24 @@ module _ (S : Tables) (ρ : RewriterMeaning) (below : OfferRules S ρ) where
   }
 
   nodes_sound : (q : Query) (n : ℕ) (ns : List ℕ) (o : Offers) → owner_of S n ≡ Some q.blame → All (λ m. m < length S.nodes) ns → nodes_from n ns ≡ Some o → Sound S q.blame o × (0 < length o.tos)
-  nodes_sound q n [] o owned all e = absurd (some_not_none None o refl e)
+  nodes_sound q n [] o owned all e = cc
   nodes_sound q n (a ∷ ns) o owned all e =
-      let same = same_some _ _ o refl e in
+      let same = same_Some _ o e in
       (subst (Sound S q.blame) same (record { owned = owned; there = all }), subst (λ x. 0 < length x.tos) same (omega arith))
 
   aside_sound : (q : Query) (a b : Option ℕ) (o : Offers) → Proper S q → q.host.live q.blame ≡ a → aside_as a b q.aside ≡ Some o → Sound S q.blame o × (0 < length o.tos)
-  aside_sound q None b o pr l e = absurd (some_not_none None o refl e)
+  aside_sound q None b o pr l e = cc
   aside_sound q (Some n) None o pr l e = nodes_sound q n q.aside o (pr.host_ruled.live_owned q.blame n l) pr.aside_there e
-  aside_sound q (Some n) (Some m) o pr l e = absurd (some_not_none None o refl e)
+  aside_sound q (Some n) (Some m) o pr l e = cc
 
   nodes_some : (n : ℕ) (ns : List ℕ) (o : Offers) → nodes_from n ns ≡ Some o → 0 < length o.tos
-  nodes_some n [] o e = absurd (some_not_none None o refl e)
-  nodes_some n (a ∷ ns) o e = subst (λ x. 0 < length x.tos) (same_some _ _ o refl e) (omega arith)
+  nodes_some n [] o e = cc
+  nodes_some n (a ∷ ns) o e = subst (λ x. 0 < length x.tos) (same_Some _ o e) (omega arith)
 
   aside_some : (a b : Option ℕ) (ns : List ℕ) (o : Offers) → aside_as a b ns ≡ Some o → 0 < length o.tos
-  aside_some None b ns o e = absurd (some_not_none None o refl e)
+  aside_some None b ns o e = cc
   aside_some (Some n) None ns o e = nodes_some n ns o e
-  aside_some (Some n) (Some m) ns o e = absurd (some_not_none None o refl e)
+  aside_some (Some n) (Some m) ns o e = cc
 
   or_sound : (q : Query) (a b : Option Offers) (o : Offers) (P : Offers → Type 0) → (a ≡ Some o → P o) → (b ≡ Some o → P o) → below_or a b ≡ Some o → P o
   or_sound q None b o P f g e = g e

@@ -1,5 +1,5 @@
 -- The four rewriters.
-use Rattle.std.specs.Prelude.{ℕ, suc, Bool, true, false, cond, not, ◌&&◌, List, [], ◌∷◌, ◌++◌, map, length, drop, Some, None, Option, ◌==◌, nat_le, nat_lt}
+use Rattle.std.specs.Prelude.{ℕ, suc, Bool, true, false, cond, ◌&&◌, List, [], ◌∷◌, ◌++◌, map, length, drop, Some, None, Option, ◌==◌, nat_le}
 use Rattle.std.specs.List.{filter, flat_map}
 use Rattle.store.specs.Tables.{Tables, is_the, owner_of}
 use Rattle.request.specs.declared.kinds.Pair.{Pair}

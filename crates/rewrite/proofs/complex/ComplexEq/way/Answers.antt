@@ -3,7 +3,6 @@ use Rattle.std.specs.Array.Iter.{array_into_iter_items}
 use Rattle.std.proofs.lemmas.Iterator.{YieldsList, YieldsList-from_slice}
 use Rattle.std.proofs.lemmas.Iterator.Adapters.{YieldsList-from_flat_map, option_map_id}
 use Rattle.std.proofs.lemmas.Iterator.Consumers.{YieldsList-at, YieldsList-from_chain, YieldsList-from_copied, YieldsList-from_filter, YieldsList-from_shown, nth_from_yields_List}
-use borrow.Author.Tests.{tests}
 use Rattle.store.specs.Tables.{tables}
 use Rattle.rewrite.specs.Kinds.{leaves, both}
 use Rattle.rewrite.proofs.complex.ComplexEq.way.Goals as goal

@@ -1,5 +1,4 @@
-use Rattle.std.proofs.Common.{rules, ap, sym, ◌∙◌}
-use Rattle.std.specs.Option.{option_map}
+use Rattle.std.proofs.Common.{rules}
 use Rattle.rewrite.proofs.Numbering.{far_at}
 use Rattle.rewrite.proofs.complex.ComplexEqEqRewriter.possible_rewrite.Goals as goal
 
