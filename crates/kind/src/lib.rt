@@ -4,4 +4,4 @@
 mod kind;
 mod rewriter;
 
-pub use kind::{AnyEq, Kind};
+pub use kind::{AnyEq, Kind, NotAKind};

@@ -6,8 +6,20 @@ ghost use Rattle.store.specs.Tables.{Tables};
 use crate::kind::{AnyEq, Kind};
 use host::Host;
 use request::Pair;
-use rewrite::{BasicEq, ComplexEq, Coupling, CustomEq, EqRewriter, ForceEq, Offered};
+use rewrite::{BasicEq, ComplexEq, Coupling, CustomEq, EqRewriter, ForceEq, Offered, Query};
 use store::Store;
+
+// The same call to the rewriter in it, whichever it is.
+macro_rules! each {
+    ($any:expr, $r:ident => $call:expr) => {
+        match $any {
+            AnyEq::Basic($r) => $call,
+            AnyEq::Complex($r) => $call,
+            AnyEq::Custom($r) => $call,
+            AnyEq::Force($r) => $call,
+        }
+    };
+}
 
 impl<'a> AnyEq<'a> {
     // Over an entry's own pairs; only ForceEq reads the booked ones too.
@@ -32,90 +44,39 @@ impl<'a> EqRewriter for AnyEq<'a> {
     ghost rules = { chosen_rules };
 
     fn coupling(&self) -> Coupling {
-        match self {
-            AnyEq::Basic(r) => r.coupling(),
-            AnyEq::Complex(r) => r.coupling(),
-            AnyEq::Custom(r) => r.coupling(),
-            AnyEq::Force(r) => r.coupling(),
-        }
+        each!(self, r => r.coupling())
     }
 
     fn forbid_dups(&self) -> bool {
-        match self {
-            AnyEq::Basic(r) => r.forbid_dups(),
-            AnyEq::Complex(r) => r.forbid_dups(),
-            AnyEq::Custom(r) => r.forbid_dups(),
-            AnyEq::Force(r) => r.forbid_dups(),
-        }
+        each!(self, r => r.forbid_dups())
     }
 
     fn reset(&mut self) {
-        match self {
-            AnyEq::Basic(r) => r.reset(),
-            AnyEq::Complex(r) => r.reset(),
-            AnyEq::Custom(r) => r.reset(),
-            AnyEq::Force(r) => r.reset(),
-        }
+        each!(self, r => r.reset())
     }
 
     fn mark(&self) -> usize {
-        match self {
-            AnyEq::Basic(r) => r.mark(),
-            AnyEq::Complex(r) => r.mark(),
-            AnyEq::Custom(r) => r.mark(),
-            AnyEq::Force(r) => r.mark(),
-        }
+        each!(self, r => r.mark())
     }
 
     fn back(&mut self, mark: usize) {
-        match self {
-            AnyEq::Basic(r) => r.back(mark),
-            AnyEq::Complex(r) => r.back(mark),
-            AnyEq::Custom(r) => r.back(mark),
-            AnyEq::Force(r) => r.back(mark),
-        }
+        each!(self, r => r.back(mark))
     }
 
     fn finished(&self, store: Store) -> bool {
-        match self {
-            AnyEq::Basic(r) => r.finished(store),
-            AnyEq::Complex(r) => r.finished(store),
-            AnyEq::Custom(r) => r.finished(store),
-            AnyEq::Force(r) => r.finished(store),
-        }
+        each!(self, r => r.finished(store))
     }
 
-    fn possible_rewrite_count<H: Host>(
-        &mut self,
-        store: Store,
-        host: &H,
-        aside: &[usize],
-        blame: usize,
-        subpat: usize,
-    ) -> Option<Offered> {
-        match self {
-            AnyEq::Basic(r) => r.possible_rewrite_count(store, host, aside, blame, subpat),
-            AnyEq::Complex(r) => r.possible_rewrite_count(store, host, aside, blame, subpat),
-            AnyEq::Custom(r) => r.possible_rewrite_count(store, host, aside, blame, subpat),
-            AnyEq::Force(r) => r.possible_rewrite_count(store, host, aside, blame, subpat),
-        }
+    fn possible_rewrite_count<H: Host>(&mut self, query: &Query<'_, H>) -> Option<Offered> {
+        each!(self, r => r.possible_rewrite_count(query))
     }
 
     fn possible_rewrite<H: Host>(
         &self,
-        store: Store,
-        host: &H,
-        aside: &[usize],
-        blame: usize,
-        subpat: usize,
+        query: &Query<'_, H>,
         mark: usize,
         idx: usize,
     ) -> Option<usize> {
-        match self {
-            AnyEq::Basic(r) => r.possible_rewrite(store, host, aside, blame, subpat, mark, idx),
-            AnyEq::Complex(r) => r.possible_rewrite(store, host, aside, blame, subpat, mark, idx),
-            AnyEq::Custom(r) => r.possible_rewrite(store, host, aside, blame, subpat, mark, idx),
-            AnyEq::Force(r) => r.possible_rewrite(store, host, aside, blame, subpat, mark, idx),
-        }
+        each!(self, r => r.possible_rewrite(query, mark, idx))
     }
 }
