@@ -1,31 +1,25 @@
 // Which nodes are the same, by class numbers and by links.
-use host::{ClassLinks, ClassNumbers, Host, TableHost};
+use host::{ClassLinks, ClassNumbers, Host, Partition, TableHost};
 use store::Store;
 
 const WIDTH: usize = 8;
 
 #[derive(Clone, Copy)]
-struct Case {
-    name: &'static str,
-    table: &'static [usize],
+struct Case<'t> {
+    name: &'t str,
+    table: &'t [usize],
     a: usize,
     b: usize,
 }
 
-fn named(name: &'static str, table: &'static [usize], a: usize, b: usize) -> Case {
+fn named<'t>(name: &'t str, table: &'t [usize], a: usize, b: usize) -> Case<'t> {
     Case { name, table, a, b }
 }
 
 // Every two of the first eight numbers, six of which are nodes.
 fn differs<G: Host, H: Host>(store: Store, one: &G, other: &H) -> Option<(usize, usize)> {
-    for k in 0..WIDTH * WIDTH {
-        let a = k / WIDTH;
-        let b = k % WIDTH;
-        if one.check_eq(store, a, b) != other.check_eq(store, a, b) {
-            return Some((a, b));
-        }
-    }
-    None
+    (0..WIDTH * WIDTH).map(|k| (k / WIDTH, k % WIDTH)).find(|(a, b)| one.check_eq(store, *a, *b)
+        != other.check_eq(store, *a, *b))
 }
 
 fn compare(
@@ -52,23 +46,24 @@ fn say(rt: &HostRuntime, how: &str, case: Case, same: bool) -> anyhow::Result<()
     Ok(())
 }
 
-fn by_numbers(rt: &HostRuntime, store: Store, cases: &[Case]) -> anyhow::Result<()> {
+// Each case by classes of this kind.
+fn by<'t, P: Partition + Drop, F: Fn(&'t [usize]) -> P + Drop>(
+    rt: &HostRuntime,
+    how: &str,
+    store: Store,
+    cases: &[Case<'t>],
+    classes: F,
+) -> anyhow::Result<()>
+    requires { F.IsAlwaysCallable classes }
+{
     for case in cases {
-        let host = TableHost::new(&[], ClassNumbers(case.table), ClassNumbers(&[]));
-        say(rt, "numbers", *case, host.check_eq(store, case.a, case.b))?;
+        let host = TableHost::new(&[], classes(case.table), classes(&[]));
+        say(rt, how, *case, host.check_eq(store, case.a, case.b))?;
     }
     Ok(())
 }
 
-fn by_links(rt: &HostRuntime, store: Store, cases: &[Case]) -> anyhow::Result<()> {
-    for case in cases {
-        let host = TableHost::new(&[], ClassLinks(case.table), ClassLinks(&[]));
-        say(rt, "links", *case, host.check_eq(store, case.a, case.b))?;
-    }
-    Ok(())
-}
-
-fn number_cases() -> [Case; 13] {
+fn number_cases() -> [Case<'static>; 13] {
     let classes: &[usize] = &[0, 0, 2, 2, 4, 5];
     let all: &[usize] = &[0, 0, 0, 0, 0, 0, 0];
     [
@@ -88,7 +83,7 @@ fn number_cases() -> [Case; 13] {
     ]
 }
 
-fn link_cases() -> [Case; 15] {
+fn link_cases() -> [Case<'static>; 15] {
     let all: &[usize] = &[0, 0, 0, 0, 0, 0, 0];
     [
         named("linked", &[0, 0], 0, 1),
@@ -110,8 +105,8 @@ fn link_cases() -> [Case; 15] {
 }
 
 pub fn run(rt: &HostRuntime, store: Store) -> anyhow::Result<()> {
-    by_numbers(rt, store, &number_cases())?;
-    by_links(rt, store, &link_cases())?;
+    by(rt, "numbers", store, &number_cases(), ClassNumbers)?;
+    by(rt, "links", store, &link_cases(), ClassLinks)?;
     compare(
         rt,
         "two twos",

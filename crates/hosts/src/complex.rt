@@ -1,5 +1,5 @@
 // ComplexEq: the pairs both ways, its own and then the booked ones.
-use crate::scene::{Scene, Step};
+use crate::scene::Scene;
 use crate::small;
 use crate::small::{node, store_of};
 use host::{ClassNumbers, TableHost};
@@ -16,34 +16,11 @@ static OWN: [Pair; 4] = [
 
 static BOOKED: [Pair; 2] = [Pair { from: 2, to: 0 }, Pair { from: 0, to: 3 }];
 
-static STEPS: [Step; 12] = [
-    Step::Kind("complex"),
-    Step::State("complex, new"),
-    Step::Ask("complex, own then booked", 0, 1),
-    Step::Ask("complex, the same again", 0, 1),
-    Step::Ask("complex, turned first", 1, 0),
-    Step::Ask("complex, equal nodes passed over", 3, 0),
-    Step::Ask("complex, booked only", 2, 0),
-    Step::Ask("complex, no pair at the term", 8, 0),
-    Step::Back(3),
-    Step::State("complex, back to 3, which marks none"),
-    Step::Reset,
-    Step::State("complex, reset"),
-];
-
-static EXCHANGED_STEPS: [Step; 1] = [Step::Ask("complex, the tables exchanged", 0, 1)];
-
-static EMPTY_STEPS: [Step; 1] = [Step::Ask("complex, no pair", 0, 1)];
-
 static SHARED: [Pair; 3] = [
     Pair { from: 1, to: 6 },
     Pair { from: 0, to: 6 },
     Pair { from: 2, to: 0 },
 ];
-
-static OWN_STEPS: [Step; 1] = [Step::Ask("complex, a term with two nodes", 0, 0)];
-
-static BOOKED_STEPS: [Step; 1] = [Step::Ask("complex, the same booked", 0, 0)];
 
 // Nodes 0 and 6 are both owned by term 0.
 fn two_nodes(rt: &HostRuntime) -> anyhow::Result<()> {
@@ -64,8 +41,26 @@ fn two_nodes(rt: &HostRuntime) -> anyhow::Result<()> {
         host: &host,
         aside: &[],
     };
-    scene.play(rt, &mut ComplexEq::new(&SHARED, &[]), &OWN_STEPS)?;
-    scene.play(rt, &mut ComplexEq::new(&[], &SHARED), &BOOKED_STEPS)
+    let mut own = scene.play(rt, ComplexEq::new(&SHARED, &[]));
+    own.ask("complex, a term with two nodes", 0, 0)?;
+    let mut booked = scene.play(rt, ComplexEq::new(&[], &SHARED));
+    booked.ask("complex, the same booked", 0, 0)
+}
+
+fn own_and_booked(rt: &HostRuntime, scene: Scene) -> anyhow::Result<()> {
+    let mut complex = scene.play(rt, ComplexEq::new(&OWN, &BOOKED));
+    complex.kind("complex")?;
+    complex.state("complex, new")?;
+    complex.ask("complex, own then booked", 0, 1)?;
+    complex.ask("complex, the same again", 0, 1)?;
+    complex.ask("complex, turned first", 1, 0)?;
+    complex.ask("complex, equal nodes passed over", 3, 0)?;
+    complex.ask("complex, booked only", 2, 0)?;
+    complex.ask("complex, no pair at the term", 8, 0)?;
+    complex.back(3);
+    complex.state("complex, back to 3, which marks none")?;
+    complex.reset();
+    complex.state("complex, reset")
 }
 
 pub fn run(rt: &HostRuntime, store: Store) -> anyhow::Result<()> {
@@ -76,8 +71,10 @@ pub fn run(rt: &HostRuntime, store: Store) -> anyhow::Result<()> {
         host: &host,
         aside: &[],
     };
-    scene.play(rt, &mut ComplexEq::new(&OWN, &BOOKED), &STEPS)?;
-    scene.play(rt, &mut ComplexEq::new(&BOOKED, &OWN), &EXCHANGED_STEPS)?;
-    scene.play(rt, &mut ComplexEq::new(&[], &[]), &EMPTY_STEPS)?;
+    own_and_booked(rt, scene)?;
+    let mut exchanged = scene.play(rt, ComplexEq::new(&BOOKED, &OWN));
+    exchanged.ask("complex, the tables exchanged", 0, 1)?;
+    let mut empty = scene.play(rt, ComplexEq::new(&[], &[]));
+    empty.ask("complex, no pair", 0, 1)?;
     two_nodes(rt)
 }

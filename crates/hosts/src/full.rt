@@ -30,15 +30,9 @@ fn pair(k: usize) -> Pair {
 
 // How many of the makings answered the numbers 0, 1, 2 and so on.
 fn fill<H: Host>(store: Store, host: &mut H) -> usize {
-    let mut in_order = 0;
-    for k in 0..MOST {
-        if let Ok(number) = host.new_trans_equality(store, pair(k), INITIAL) {
-            if number == k && in_order < MOST {
-                in_order += 1;
-            }
-        }
-    }
-    in_order
+    (0..MOST)
+        .filter(|k| host.new_trans_equality(store, pair(*k), INITIAL) == Ok(*k))
+        .count()
 }
 
 pub fn run(rt: &HostRuntime) -> anyhow::Result<()> {

@@ -1,5 +1,5 @@
 // The live nodes of terms, from tables that may be short or wrong.
-use crate::say::Number;
+use crate::say::OrNone;
 use crate::small;
 use crate::small::{node, store_of};
 use host::{ClassNumbers, Host, TableHost};
@@ -21,7 +21,7 @@ fn say(rt: &HostRuntime, store: Store, case: Case) -> anyhow::Result<()> {
     let host = TableHost::new(case.table, alone, alone);
     let name = case.name;
     let term = case.term;
-    let live = Number(host.get_enode_imm(store, term));
+    let live = OrNone(host.get_enode_imm(store, term));
     println!(rt; "live node of term {term}, {name}: {live}")?;
     Ok(())
 }

@@ -1,5 +1,5 @@
 // Making equalities: each ground of refusal, and the numbers of those made.
-use crate::say::{Ends, Made};
+use crate::say::{Ends, Made, OrNone};
 use host::{ClassNumbers, Host, TableHost, TransEqAllowed};
 use request::Pair;
 use store::Store;
@@ -89,7 +89,7 @@ pub fn list<H: Host>(
     numbers: &[usize],
 ) -> anyhow::Result<()> {
     for number in numbers {
-        let ends = Ends(host.from_to(store, *number));
+        let ends = OrNone(host.from_to(store, *number).map(Ends));
         println!(rt; "equality {number}: {ends}")?;
     }
     Ok(())

@@ -3,33 +3,27 @@ use request::Pair;
 use std::fmt;
 use store::Fault;
 
-// A number, or none.
+// A value, or none.
 #[derive(Clone, Copy)]
-pub struct Number(pub Option<usize>);
+pub struct OrNone<T>(pub Option<T>);
 
-impl fmt::Display for Number {
+impl<T: fmt::Display> fmt::Display for OrNone<T> {
     fn fmt<W: fmt::Write>(&self, f: &mut fmt::Formatter<W>) -> fmt::Result {
-        match self.0 {
-            Some(n) => write!(f, "{n}"),
-            None => write!(f, "none"),
+        match &self.0 {
+            Some(value) => write!(f, "{value}"),
+            None => f.write_str("none"),
         }
     }
 }
 
-// The ends of an equality, or none.
+// The ends of an equality.
 #[derive(Clone, Copy)]
-pub struct Ends(pub Option<Pair>);
+pub struct Ends(pub Pair);
 
 impl fmt::Display for Ends {
     fn fmt<W: fmt::Write>(&self, f: &mut fmt::Formatter<W>) -> fmt::Result {
-        match self.0 {
-            Some(pair) => {
-                let from = pair.from;
-                let to = pair.to;
-                write!(f, "{from} to {to}")
-            }
-            None => write!(f, "none"),
-        }
+        let Pair { from, to } = self.0;
+        write!(f, "{from} to {to}")
     }
 }
 

@@ -1,117 +1,86 @@
-// What is done to a rewriter step by step, and what it answers.
-use crate::say::Number;
+// A rewriter that is asked and moved, and what it answers.
+use crate::say::OrNone;
 use host::{ClassNumbers, TableHost};
-use rewrite::EqRewriter;
+use rewrite::{EqRewriter, Query};
 use store::Store;
 
-// A step, most with the name of its case.
 #[derive(Clone, Copy)]
-pub enum Step {
-    // a query at a term and a pattern term
-    Ask(&'static str, usize, usize),
-    // the mark, and whether it is finished
-    State(&'static str),
-    // the coupling, and whether it forbids duplicates
-    Kind(&'static str),
-    Back(usize),
-    Reset,
-}
-
-#[derive(Clone, Copy)]
-pub struct Scene<'s, 'a> {
-    pub store: Store<'s>,
+pub struct Scene<'a> {
+    pub store: Store<'a>,
     pub host: &'a TableHost<'a, ClassNumbers<'a>>,
     pub aside: &'a [usize],
 }
 
-fn say_state<R: EqRewriter>(
-    rt: &HostRuntime,
-    case: &str,
-    store: Store,
-    rewriter: &R,
-) -> anyhow::Result<()> {
-    let mark = rewriter.mark();
-    let finished = rewriter.finished(store);
-    println!(rt; "{case}: mark {mark}, finished {finished}")?;
-    Ok(())
-}
-
-fn say_kind<R: EqRewriter>(rt: &HostRuntime, case: &str, rewriter: &R) -> anyhow::Result<()> {
-    let coupling = rewriter.coupling();
-    let forbids = rewriter.forbid_dups();
-    println!(rt; "{case}: {coupling:?}, forbids twice {forbids}")?;
-    Ok(())
-}
-
-impl Scene<'_, '_> {
-    fn offer<R: EqRewriter>(
-        self,
-        rewriter: &R,
-        term: usize,
-        pattern: usize,
-        mark: usize,
-        idx: usize,
-    ) -> Number {
-        Number(rewriter.possible_rewrite(
-            self.store, self.host, self.aside, term, pattern, mark, idx,
-        ))
+impl<'a> Scene<'a> {
+    pub fn play<R: EqRewriter>(self, rt: &'a HostRuntime, rewriter: R) -> Play<'a, R> {
+        Play {
+            rt,
+            scene: self,
+            rewriter,
+        }
     }
+}
 
-    // One query: what it offers in order, and the offer past the last.
-    fn ask<R: EqRewriter>(
-        self,
-        rt: &HostRuntime,
-        rewriter: &mut R,
-        term: usize,
-        pattern: usize,
-    ) -> anyhow::Result<()> {
-        let mark = rewriter.mark();
+// Each call but the last two prints a line that begins with the name of its case.
+#[derive(Drop)]
+pub struct Play<'a, R> {
+    rt: &'a HostRuntime,
+    scene: Scene<'a>,
+    rewriter: R,
+}
+
+impl<'a, R: EqRewriter> Play<'a, R> {
+    // One query at a term and a pattern term: what it offers in order, and the offer past the last.
+    pub fn ask(&mut self, case: &str, blame: usize, subpat: usize) -> anyhow::Result<()> {
+        let Scene { store, host, aside } = self.scene;
+        let query = Query {
+            store,
+            host,
+            aside,
+            blame,
+            subpat,
+        };
+        let mark = self.rewriter.mark();
+        print!(self.rt; "{case}: ")?;
         let mut count = 0;
-        match rewriter.possible_rewrite_count(self.store, self.host, self.aside, term, pattern) {
+        match self.rewriter.possible_rewrite_count(&query) {
             Some(offered) => {
                 let from = offered.from;
                 count = offered.count;
-                print!(rt; "from {from} to")?;
+                print!(self.rt; "from {from} to")?;
             }
-            None => print!(rt; "nothing")?,
+            None => print!(self.rt; "nothing")?,
         }
         for idx in 0..count {
-            let to = self.offer(rewriter, term, pattern, mark, idx);
-            print!(rt; " {to}")?;
+            let to = OrNone(self.rewriter.possible_rewrite(&query, mark, idx));
+            print!(self.rt; " {to}")?;
         }
-        let past = self.offer(rewriter, term, pattern, mark, count);
-        println!(rt; " then {past}")?;
+        let past = OrNone(self.rewriter.possible_rewrite(&query, mark, count));
+        println!(self.rt; " then {past}")?;
         Ok(())
     }
 
-    fn step<R: EqRewriter>(
-        self,
-        rt: &HostRuntime,
-        rewriter: &mut R,
-        step: Step,
-    ) -> anyhow::Result<()> {
-        match step {
-            Step::Ask(case, term, pattern) => {
-                print!(rt; "{case}: ")?;
-                self.ask(rt, rewriter, term, pattern)?;
-            }
-            Step::State(case) => say_state(rt, case, self.store, rewriter)?,
-            Step::Kind(case) => say_kind(rt, case, rewriter)?,
-            Step::Back(mark) => rewriter.back(mark),
-            Step::Reset => rewriter.reset(),
-        }
+    // The mark, and whether it is finished.
+    pub fn state(&self, case: &str) -> anyhow::Result<()> {
+        let mark = self.rewriter.mark();
+        let finished = self.rewriter.finished(self.scene.store);
+        println!(self.rt; "{case}: mark {mark}, finished {finished}")?;
         Ok(())
     }
 
-    pub fn play<R: EqRewriter>(
-        self,
-        rt: &HostRuntime,
-        rewriter: &mut R,
-        steps: &[Step],
-    ) -> anyhow::Result<()> {
-        for step in steps {
-            self.step(rt, rewriter, *step)?;
-        }
+    // The coupling, and whether it forbids duplicates.
+    pub fn kind(&self, case: &str) -> anyhow::Result<()> {
+        let coupling = self.rewriter.coupling();
+        let forbids = self.rewriter.forbid_dups();
+        println!(self.rt; "{case}: {coupling:?}, forbids twice {forbids}")?;
         Ok(())
+    }
+
+    pub fn back(&mut self, mark: usize) {
+        self.rewriter.back(mark);
+    }
+
+    pub fn reset(&mut self) {
+        self.rewriter.reset();
     }
 }
