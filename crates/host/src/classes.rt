@@ -60,6 +60,7 @@ fn link(links: &[usize], n: usize) -> usize
 fn root(links: &[usize], n: usize) -> usize
     ensures { result ≡ root links.now n }
 {
+    // It follows links and counts nothing, so no iterator of the library stands for it.
     let mut at = n;
     let mut next = link(links, at);
     while next < at {

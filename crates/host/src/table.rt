@@ -112,6 +112,7 @@ impl<'a, P: Partition> Host for TableHost<'a, P> {
             return Ok(k);
         }
         let k = self.made.count();
+        // No `map_err` and `?`: its proof does not close, since what is said of the list is lost behind the closure.
         match self.made.push(ends) {
             Ok(()) => Ok(k),
             Err(_) => Err(refused(Refusal::HostFull)),

@@ -57,7 +57,7 @@ impl<'a> TryFrom<&'a [u8]> for Kind {
     }
 }
 
-// CustomEq and ForceEq stand over ComplexEq.
+// CustomEq and ForceEq stand over ComplexEq. An enum and no `dyn`: a rewriter's calls are generic over the host.
 #[derive(Drop)]
 pub enum AnyEq<'a> {
     Basic(BasicEq<'a>),

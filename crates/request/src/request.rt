@@ -9,6 +9,7 @@ use crate::kinds::{LogEntry, MatchKind, Pair};
 use crate::places::{Places, walk};
 use store::{Store, cut, lookup};
 
+// Clauses read it by `asked`, for the reason that a store is read by `tables`.
 #[derive(Clone, Copy)]
 pub struct Request<'a> {
     pub store: Store<'a>,

@@ -1,4 +1,5 @@
-// A list of at most N items that lies in an array, so that it needs no allocator.
+// A list of at most N items that lies in an array: the core has fixed memory and no allocator. The crate arrayvec would do, but its `new`
+// and this type's differ, and this type's calls are public.
 ghost use Rattle.std.specs.Prelude.{◌≡◌, ◌<◌, ◌≤◌, [], ◌∷◌, ◌++◌, length, take, MatchOption, MatchResult};
 ghost use Rattle.std.specs.List.{slice_get};
 

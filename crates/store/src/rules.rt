@@ -204,6 +204,7 @@ impl Store<'_> {
     fn keeps_all(self) -> bool
         ensures { Decides result (StoreRules (tables self.entry)) }
     {
+        // No chain of `&&`: its proof does not close, since what a call before a `&&` decided is lost behind the next.
         if !self.is_small() {
             return false;
         }

@@ -7,6 +7,7 @@ ghost use Rattle.store.specs.Tables.{tables, term_at, children_of, kids, owner_o
 use crate::span::{Span, cut, lookup};
 use crate::term::{ENode, HasVar, Term};
 
+// Clauses read it by `tables`: a struct that is Copy and has a lifetime can have no model.
 #[derive(Clone, Copy)]
 pub struct Store<'a> {
     pub terms: &'a [Term],
