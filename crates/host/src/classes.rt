@@ -11,11 +11,11 @@ pub trait Partition {
     // Whether one class holds both, among so many nodes.
     ghost joins: { Self → ℕ → ℕ → ℕ → Bool };
 
-    // What each impl must prove: a class holds nodes only.
-    ghost within: { (p : Self) (nodes a b : ℕ) → joins p nodes a b ≡ true → (a < nodes) × (b < nodes) };
-
     fn are_joined(&self, nodes: usize, a: usize, b: usize) -> bool
         ensures { result ≡ joins self.now nodes a b };
+
+    // The law that each impl proves: a class holds nodes only.
+    ghost within: { (p : Self) (nodes a b : ℕ) → joins p nodes a b ≡ true → (a < nodes) × (b < nodes) };
 }
 
 // A class number for each node. A number that names no node is none, and its node is alone.

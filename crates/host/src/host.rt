@@ -11,9 +11,6 @@ use store::{Fault, Store};
 pub trait Host {
     ghost meaning: { Self → Tables → HostMeaning };
 
-    // What each impl must prove.
-    ghost rules: { (h : Self) (S : Tables) → HostRules S (meaning h S) };
-
     // The live node of a term.
     fn get_enode_imm(&self, store: Store, term: usize) -> Option<usize>
         ensures { result ≡ (meaning self.now (tables store.entry)).live term };
@@ -34,4 +31,7 @@ pub trait Host {
         allowed: TransEqAllowed,
     ) -> Result<usize, Fault>
         ensures { Makes (tables store.entry) (meaning self.old (tables store.entry)) ends allowed result (meaning self.new (tables store.entry)) };
+
+    // The law that each impl proves.
+    ghost rules: { (h : Self) (S : Tables) → HostRules S (meaning h S) };
 }
