@@ -7,7 +7,7 @@ use Rattle.store.specs.declared.term.HasVar.TheVariants.{No, Yes, Unknown}
 use Rattle.store.specs.declared.term.Term.{Term}
 use Rattle.store.specs.declared.term.TermKind.{TermKind}
 use Rattle.store.specs.declared.term.TermKind.TheVariants.{Var, App, Quant}
-use Rattle.store.specs.Tables.{Tables, term_at, kids, recorded, recorded_in, Closed, owner_of}
+use Rattle.store.specs.Tables.{Tables, term_at, kids, recorded, record_or, Closed, owner_of}
 use Rattle.request.specs.declared.kinds.Pair.{Pair}
 use Rattle.request.specs.Asked.{Asked}
 use Rattle.host.specs.Meaning.{HostMeaning, HostRules}
@@ -137,7 +137,7 @@ opened_as R s (Quant q) m ps e h = tt
 
 opened_of : (R : Asked) (s : ℕ) (o : Option Term) (f : ℕ → Pat) → term_at R.store s ≡ o → ((c : ℕ) → Opened (NotClosed R.store) (f c)) → Opened (NotClosed R.store) (tree_of R s o f)
 opened_of R s None f e h = tt
-opened_of R s (Some x) f e h = opened_as R s x.kind x.has_var (all_trees f (kids R.store x)) (ap recorded_in e) (opened_trees (NotClosed R.store) f h (kids R.store x))
+opened_of R s (Some x) f e h = opened_as R s x.kind x.has_var (all_trees f (kids R.store x)) (ap (record_or Unknown) e) (opened_trees (NotClosed R.store) f h (kids R.store x))
 
 pub opened_part : (R : Asked) (k s : ℕ) → Opened (NotClosed R.store) (part_in R k s)
 opened_part R zero s = tt

@@ -4,6 +4,7 @@ pub mod Leading
 pub mod Running
 pub mod Depth
 pub mod Offering
+pub mod Finding
 pub mod Turning
 pub mod Advancing
 pub mod Missing

@@ -11,7 +11,7 @@ use Rattle.matcher.specs.declared.machine.PatternMatcher.{PatternMatcher}
 use Rattle.matcher.specs.Machine.{left, Finite, ModeSound, Stacked}
 use Rattle.matcher.specs.Running.{Run}
 use Rattle.matcher.specs.Search.{Asking, asking, seek, if_finished}
-use Rattle.matcher.specs.Stepping.{stack, MachineSound, machine_left, Starts, Ends, Searched, stopped_with, ends_in, success}
+use Rattle.matcher.specs.Stepping.{stack, MachineSound, machine_left, Starts, Searched, stopped_with, ends_in, success}
 use Rattle.matcher.specs.Trees.{part, view}
 use Rattle.matcher.proofs.Depth.{size_is}
 use Rattle.matcher.proofs.Running.{runs_alike}
@@ -35,9 +35,9 @@ module _ (R : Asked) (M : PatternMatcher) (b s : ℕ) (new : Starts b s M) where
   start_answer A st = ap (λ (r : Run). r.answer) (λ i. left R A (empty i) (new.pairs i) (new.mode i) st) ∙ runs_alike (view R.store) A (part R s) b st
 
   -- ρ is the rewriter's meaning before the reset, after it, and after the run
-  module _ (ρ ρ₁ ρ₂ : RewriterMeaning) (m : HostMeaning) (ns : List ℕ) (M' : PatternMatcher) (st st' : ℕ) (fin : Finite R s) (first : st ≡ ρ.first) (was : ρ₁ ≡ ρ) (kept : ρ₂ ≡ ρ₁) (ended : Ends R (asking ρ₁ m ns) M st M' st') where
-    ends : Ends R (asking ρ m ns) M st M' st'
-    ends = subst (λ r. Ends R (asking r m ns) M st M' st') was ended
+  module _ (ρ ρ₁ ρ₂ : RewriterMeaning) (m : HostMeaning) (ns : List ℕ) (M' : PatternMatcher) (st st' : ℕ) (fin : Finite R s) (first : st ≡ ρ.first) (was : ρ₁ ≡ ρ) (kept : ρ₂ ≡ ρ₁) (ended : (machine_left R (asking ρ₁ m ns) M st).answer ≡ stopped_with M'.mode (held M'.pairs) st') where
+    ends : (machine_left R (asking ρ m ns) M st).answer ≡ stopped_with M'.mode (held M'.pairs) st'
+    ends = subst (λ r. (machine_left R (asking r m ns) M st).answer ≡ stopped_with M'.mode (held M'.pairs) st') was ended
 
     finished_as : ρ.finished st' ≡ ρ₂.finished st'
     finished_as = ap (λ (r : RewriterMeaning). r.finished st') (sym (kept ∙ was))

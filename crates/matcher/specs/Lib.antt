@@ -6,3 +6,4 @@ pub mod Cases
 pub mod Running
 pub mod Machine
 pub mod Stepping
+pub mod Settings

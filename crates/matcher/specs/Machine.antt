@@ -1,35 +1,40 @@
 -- The search as a machine: what its levels still have to do.
-use Rattle.std.specs.Prelude.{◌≡◌, ℕ, zero, suc, ◌+◌, ◌≤◌, true, List, [], ◌∷◌, length, drop, Some, None, Option}
+use Rattle.std.specs.Prelude.{◌≡◌, ℕ, zero, suc, ◌+◌, ◌<◌, ◌≤◌, true, cond, ◌⊎◌, List, [], ◌∷◌, length, drop, Some, None, Option, MatchOption}
 use Rattle.request.specs.declared.kinds.Pair.{Pair}
 use Rattle.request.specs.Asked.{Asked}
 use Rattle.request.specs.Places.{Preorder, opened}
+use Rattle.host.specs.Reading.{is_the}
 use Rattle.rewrite.specs.Meaning.{Offers, RewriterMeaning}
 use Rattle.matcher.specs.declared.level.Level.{Level}
 use Rattle.matcher.specs.declared.level.Mode.{Mode}
 use Rattle.matcher.specs.declared.level.Mode.TheVariants.{Down, Hit, Miss}
-use Rattle.matcher.specs.declared.level.Phase.{Phase}
-use Rattle.matcher.specs.declared.level.Phase.TheVariants.{Plain, Offered}
 use Rattle.matcher.specs.declared.level.Place.{Place}
-use Rattle.matcher.specs.declared.level.Place.TheVariants.{Bound, Unbound, Opened}
-use Rattle.matcher.specs.declared.level.Whole.{Whole}
-use Rattle.matcher.specs.declared.level.Whole.TheVariants.{Same, By, Not}
+use Rattle.matcher.specs.declared.level.Place.TheVariants.{Whole, Opened}
+use Rattle.matcher.specs.declared.level.Trying.{Trying}
 use Rattle.matcher.specs.Running.{Run, Out, reached, failed, over, on_out, Kids, offers_run, plain_run, run, kids_run}
 use Rattle.matcher.specs.Search.{Asking, hit}
 use Rattle.matcher.specs.Search as found
-use Rattle.matcher.specs.Trees.{Pat, Pats, hole, ground, app, end, more, places, places_all, part, part_in, all_trees, view}
+use Rattle.matcher.specs.Trees.{Pat, Pats, hole, ground, app, end, more, View, places, places_all, part, part_in, all_trees, view}
 
--- which kind of place a term is, by its tree
-abbrev pub PlaceIs : Asked → ℕ → Place → Type 0
-PlaceIs R s (Bound t) = part R s ≡ hole s (Some t)
-PlaceIs R s Unbound = part R s ≡ hole s None
-PlaceIs R s Place.Whole = part R s ≡ ground s
-PlaceIs R s Opened = part R s ≡ app s (all_trees (part_in R 63) (opened R.store s))
+-- which kind of place a term is, by its tree; a term is matched whole with what it is bound to, or else with itself
+abbrev pub PlaceIs : Asked → ℕ → Option Place → Type 0
+PlaceIs R s None = part R s ≡ hole s None
+PlaceIs R s (Some (Whole t)) = (part R s ≡ hole s (Some t)) ⊎ ((part R s ≡ ground s) × (t ≡ s))
+PlaceIs R s (Some Opened) = part R s ≡ app s (all_trees (part_in R 63) (opened R.store s))
 
--- how a term was matched whole
-abbrev pub whole_hit : Whole → ℕ → Option found.Hit
-whole_hit Same st = Some (hit [] st)
-whole_hit (By p) st = Some (hit (p ∷ []) st)
-whole_hit Not st = None
+-- what a pair gives that leads to a term, with the state that it was found in
+abbrev pub pair_hit : Option Pair → ℕ → Option found.Hit
+pair_hit None st = None
+pair_hit (Some p) st = Some (hit (p ∷ []) st)
+
+-- a node, if the term owns it
+abbrev pub owned_in : View → ℕ → Option ℕ → Option ℕ
+owned_in V t None = None
+owned_in V t (Some m) = cond (is_the (V.owner m) t) (Some m) None
+
+-- what f gives first, of so many numbers
+abbrev pub IsFirstOf : (ℕ → Option ℕ) → ℕ → Option ℕ → Type 0
+IsFirstOf f n r = MatchOption r ((i : ℕ) → i < n → f i ≡ None) (λ m. (i : ℕ) × (i < n) × (f i ≡ Some m) × ((k : ℕ) → k < i → f k ≡ None))
 
 -- the children's trees of an application that is opened
 abbrev pub pats_in : Pat → Pats
@@ -54,9 +59,9 @@ module _ (R : Asked) (A : Asking) where
   runner s bs st acc mk k = kids_run (view R.store) A (pats_of R s) bs st acc mk k
 
   -- what a level does when what it matches has failed: ask, or try the offers that are left
-  abbrev pub phase_run : Level → Phase → (Out → Run) → List Pair → Run
-  phase_run l Plain k acc = plain_run (view R.store) A (runner l.subpat) l.subpat l.blame l.before l.start k acc
-  phase_run l (Offered n count tried) k acc = offers_run (view R.store) A (runner l.subpat) l.subpat n (drop tried (tos_of (A.ask l.before l.blame l.subpat))) l.after l.start k acc
+  abbrev pub phase_run : Level → Option Trying → (Out → Run) → List Pair → Run
+  phase_run l None k acc = plain_run (view R.store) A (runner l.subpat) l.subpat l.blame l.before l.start k acc
+  phase_run l (Some w) k acc = offers_run (view R.store) A (runner l.subpat) l.subpat w.offered.from (drop w.tried (tos_of (A.ask l.before l.blame l.subpat))) w.after l.start k acc
 
   -- and when its last child was reached: go on with the next
   abbrev pub children_run : Level → (Out → Run) → List Pair → ℕ → Run
@@ -89,10 +94,10 @@ cap R [] = 64
 cap R (l ∷ ls) = l.start + size R l.subpat
 
 -- a level that has asked knows its answer
-abbrev pub PhaseSound : RewriterMeaning → Asking → Level → Phase → Type 0
-PhaseSound ρ A l Plain = Unit {0}
-PhaseSound ρ A l (Offered n count tried) =
-    (tos : List ℕ) × (A.ask l.before l.blame l.subpat ≡ Some (record { from = n; tos = tos })) × (length tos ≡ count) × (l.after ≡ A.next l.before l.blame l.subpat) × (ρ.known l.after ≡ true)
+abbrev pub PhaseSound : RewriterMeaning → Asking → Level → Option Trying → Type 0
+PhaseSound ρ A l None = Unit {0}
+PhaseSound ρ A l (Some w) =
+    (tos : List ℕ) × (A.ask l.before l.blame l.subpat ≡ Some (record { from = w.offered.from; tos = tos })) × (length tos ≡ w.offered.count) × (w.after ≡ A.next l.before l.blame l.subpat) × (ρ.known w.after ≡ true)
 
 pub record LevelSound (R : Asked) (ρ : RewriterMeaning) (A : Asking) (l : Level) (ls : List Level) : Type 0 where
   pub finite : Finite R l.subpat

@@ -8,11 +8,9 @@ use Rattle.request.specs.Asked.{Asked}
 use Rattle.host.specs.Meaning.{HostMeaning}
 use Rattle.rewrite.specs.Meaning.{Offers, RewriterMeaning}
 use Rattle.matcher.specs.declared.level.Level.{Level}
+use Rattle.matcher.specs.declared.level.Taken.{Taken}
 use Rattle.matcher.specs.declared.level.Mode.{Mode}
 use Rattle.matcher.specs.declared.level.Mode.TheVariants.{Down, Hit, Miss}
-use Rattle.matcher.specs.declared.level.Phase.TheVariants.{Plain, Offered}
-use Rattle.matcher.specs.declared.level.Whole.{Whole}
-use Rattle.matcher.specs.declared.level.Whole.TheVariants.{Same, By, Not}
 use Rattle.matcher.specs.declared.machine.PatternMatcher.{PatternMatcher}
 use Rattle.matcher.specs.Machine.{left, Stacked, ModeSound, Finite}
 use Rattle.matcher.specs.Running.{Run, tick}
@@ -24,24 +22,23 @@ use Rattle.matcher.specs.Trees.{fits_as, part, view}
 abbrev pub stack : PatternMatcher → List Level
 stack M = reverse (held M.levels)
 
-abbrev pub settled_pairs : List Pair → Whole → List Pair
-settled_pairs acc Same = acc
-settled_pairs acc (By p) = acc ++ p ∷ []
-settled_pairs acc Not = acc
+-- a place that is matched whole, by a pair or not at all
+abbrev pub settled_pairs : List Pair → Option Pair → List Pair
+settled_pairs acc None = acc
+settled_pairs acc (Some p) = acc ++ p ∷ []
 
-abbrev pub settled_mode : Whole → Mode
-settled_mode Same = Hit
-settled_mode (By p) = Hit
-settled_mode Not = Miss
+abbrev pub settled_mode : Option Pair → Mode
+settled_mode None = Miss
+settled_mode (Some p) = Hit
 
-pub record Settles (M : PatternMatcher) (w : Whole) (M' : PatternMatcher) : Type 0 where
+pub record Settles (M : PatternMatcher) (by : Option Pair) (M' : PatternMatcher) : Type 0 where
   pub levels : M'.levels ≡ M.levels
-  pub pairs : held M'.pairs ≡ settled_pairs (held M.pairs) w
-  pub mode : M'.mode ≡ settled_mode w
+  pub pairs : held M'.pairs ≡ settled_pairs (held M.pairs) by
+  pub mode : M'.mode ≡ settled_mode by
 
 -- a level just opened
 abbrev pub opened_level : ℕ → ℕ → ℕ → ℕ → Level
-opened_level b s mark start = record { blame = b; subpat = s; term = b; child = 0; before = mark; after = mark; phase = Plain; start = start }
+opened_level b s mark start = record { blame = b; subpat = s; term = b; child = 0; before = mark; phase = None; start = start }
 
 pub record Opens (S : Tables) (M : PatternMatcher) (b s mark : ℕ) (M' : PatternMatcher) : Type 0 where
   pub levels : held M'.levels ≡ held M.levels ++ opened_level b s mark (length (held M.pairs)) ∷ []
@@ -50,7 +47,7 @@ pub record Opens (S : Tables) (M : PatternMatcher) (b s mark : ℕ) (M' : Patter
 
 -- the level with its next child
 abbrev pub next_child : Level → Level
-next_child l = record { blame = l.blame; subpat = l.subpat; term = l.term; child = l.child + 1; before = l.before; after = l.after; phase = l.phase; start = l.start }
+next_child l = record { blame = l.blame; subpat = l.subpat; term = l.term; child = l.child + 1; before = l.before; phase = l.phase; start = l.start }
 
 -- after a child: which level is kept, and what comes next, by the next child's pattern term and term
 abbrev pub kept_level : Level → Option ℕ → Option ℕ → List Level
@@ -71,18 +68,14 @@ pub record Advances (M : PatternMatcher) (l : Level) (s b : Option ℕ) (M' : Pa
 -- after a query: the level that goes through the offers, if there are any
 abbrev pub asked_level : Level → Option Offers → ℕ → List Level
 asked_level l None after = []
-asked_level l (Some o) after = record { blame = l.blame; subpat = l.subpat; term = l.term; child = l.child; before = l.before; after = after; phase = Offered o.from (length o.tos) 0; start = l.start } ∷ []
+asked_level l (Some o) after = record { blame = l.blame; subpat = l.subpat; term = l.term; child = l.child; before = l.before; phase = Some (record { after = after; offered = record { from = o.from; count = length o.tos }; tried = 0 }); start = l.start } ∷ []
 
 pub record Asks (M : PatternMatcher) (l : Level) (a : Option Offers) (after : ℕ) (M' : PatternMatcher) : Type 0 where
   pub levels : held M'.levels ≡ held M.levels ++ asked_level l a after
   pub pairs : M'.pairs ≡ M.pairs
   pub mode : M'.mode ≡ Miss
 
--- an offer that is taken: its node, and the term that owns it
-pub record Taken : Type 0 where
-  pub node : ℕ
-  pub term : ℕ
-
+-- an offer that is taken
 abbrev pub taken_by : Tables → ℕ → ℕ → Option ℕ → Option Taken
 taken_by S s n None = None
 taken_by S s n (Some c) = cond (fits_as (term_at S c) (term_at S s)) (Some (record { node = n; term = c })) None
@@ -93,7 +86,7 @@ taken S s (Some n) = taken_by S s n (owner_of S n)
 
 abbrev pub taken_level : Level → Option Taken → Level
 taken_level l None = l
-taken_level l (Some t) = record { blame = l.blame; subpat = l.subpat; term = t.term; child = 0; before = l.before; after = l.after; phase = l.phase; start = l.start }
+taken_level l (Some t) = record { blame = l.blame; subpat = l.subpat; term = t.term; child = 0; before = l.before; phase = l.phase; start = l.start }
 
 abbrev pub taken_pairs : List Pair → ℕ → Option Taken → List Pair
 taken_pairs acc n None = acc
@@ -119,29 +112,12 @@ pub record Stepped (R : Asked) (ρ : RewriterMeaning) (A : Asking) (before : Run
   pub one_step : before ≡ tick (machine_left R A M st)
   pub sound : MachineSound R ρ A M st
 
--- one turn, from a machine and a state of the rewriter to others
-abbrev pub Steps : Asked → RewriterMeaning → HostMeaning → List ℕ → PatternMatcher → ℕ → PatternMatcher → ℕ → Type 0
-Steps R ρ m ns M st M' st' = Stepped R ρ (asking ρ m ns) (machine_left R (asking ρ m ns) M st) M' st'
-
--- the same, where the top level has been taken off
-abbrev pub StepsOff : Asked → RewriterMeaning → HostMeaning → List ℕ → Level → Mode → PatternMatcher → ℕ → PatternMatcher → ℕ → Type 0
-StepsOff R ρ m ns l mode M st M' st' = Stepped R ρ (asking ρ m ns) (left R (asking ρ m ns) (l ∷ stack M) (held M.pairs) mode st) M' st'
-
 -- the machine has stopped, with the last place reached or missed
 pub record Stopped (M : PatternMatcher) (st : ℕ) (M' : PatternMatcher) (st' : ℕ) : Type 0 where
   pub empty : stack M ≡ []
   pub not_down : (b s : ℕ) → M.mode ≢ Down b s
   pub same : M' ≡ M
   pub state : st' ≡ st
-
-abbrev pub Turned : Asked → RewriterMeaning → HostMeaning → List ℕ → PatternMatcher → ℕ → PatternMatcher → ℕ → Bool → Type 0
-Turned R ρ m ns M st M' st' true = Steps R ρ m ns M st M' st'
-Turned R ρ m ns M st M' st' false = Stopped M st M' st'
-
--- on its way: sound, and with the answer still to give that it began with
-pub record Going (R : Asked) (ρ : RewriterMeaning) (A : Asking) (M : PatternMatcher) (st : ℕ) (M' : PatternMatcher) (st' : ℕ) : Type 0 where
-  pub sound : MachineSound R ρ A M' st'
-  pub answer : (machine_left R A M st).answer ≡ (machine_left R A M' st').answer
 
 -- a matcher about to enter a place
 pub record Starts (b s : ℕ) (M : PatternMatcher) : Type 0 where
@@ -160,10 +136,6 @@ abbrev pub success : Mode → Bool → Bool
 success (Down b s) q = false
 success Hit q = q
 success Miss q = false
-
--- run to its end, it gives the answer that it had to give
-abbrev pub Ends : Asked → Asking → PatternMatcher → ℕ → PatternMatcher → ℕ → Type 0
-Ends R A M st M' st' = (machine_left R A M st).answer ≡ stopped_with M'.mode (held M'.pairs) st'
 
 abbrev pub pairs_of : Option (Fixed Pair 64) → Option (List Pair)
 pairs_of None = None

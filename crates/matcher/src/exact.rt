@@ -1,79 +1,52 @@
-// A term that is matched whole: by itself, or by one offer that it owns.
-ghost use Rattle.std.specs.Prelude.{◌≡◌, ℕ, Some};
-ghost use Rattle.host.specs.Reading.{is_the};
-ghost use Rattle.matcher.specs.Machine.{whole_hit};
-ghost use Rattle.matcher.specs.Search.{asking, exact, if_owned, by_offers};
-ghost use Rattle.matcher.specs.Trees.{view};
-ghost use Rattle.rewrite.specs.Meaning.{counted, query};
-ghost use Rattle.store.specs.Tables.{tables, owner_of};
+// A term that is matched whole, by one offer that it owns.
+ghost use Rattle.std.specs.Prelude.{◌≡◌};
+ghost use Rattle.matcher.specs.Machine.{pair_hit, IsFirstOf};
+ghost use Rattle.matcher.specs.Settings.{owned_at, found_owned};
+ghost use Rattle.rewrite.specs.Meaning.{meant};
+ghost use Rattle.store.specs.Tables.{tables};
 
-use crate::level::Whole;
 use host::Host;
 use request::Pair;
-use rewrite::EqRewriter;
-use store::Store;
+use rewrite::{EqRewriter, Offered, Query};
 
-fn is_owned(store: Store, node: usize, term: usize) -> bool
-    ensures { result ≡ is_the (owner_of (tables store.entry) node) term }
-{
-    match store.owner(node) {
-        Some(owner) => owner == term,
-        None => false,
-    }
-}
-
-// The first of the offers, made by a query in the marked state, that the term owns.
-fn first_owned<H: Host, R: EqRewriter>(
-    store: Store,
-    host: &H,
-    aside: &[usize],
+// The node of an offer, of the query in the marked state, if the pattern term owns it.
+fn owned_offer<H: Host, R: EqRewriter>(
+    query: &Query<'_, H>,
     rewriter: &R,
-    blame: usize,
-    term: usize,
     mark: usize,
-    from: usize,
-    count: usize,
-) -> Whole
-    requires { counted ((R.EqRewriter.rewriter rewriter.now (tables store)).ask mark (query (H.Host.meaning host.now (tables store)) aside.now blame term)) ≡ Some (record { from = from; count = count }) }
-    ensures { (st : ℕ) → whole_hit result st ≡ by_offers (if_owned (view (tables store.entry)) term) ((R.EqRewriter.rewriter rewriter.now (tables store.entry)).ask mark (query (H.Host.meaning host.now (tables store.entry)) aside.now blame term)) st }
+    idx: usize,
+) -> Option<usize>
+    ensures { result ≡ owned_at H.Host.meaning (R.EqRewriter.rewriter rewriter.now) query.now mark idx }
 {
-    for i in 0..count {
-        if let Some(to) = rewriter.possible_rewrite(store, host, aside, blame, term, mark, i) {
-            if is_owned(store, to, term) {
-                return Whole::By(Pair { from, to });
-            }
-        }
-    }
-    Whole::Not
+    let to = rewriter.possible_rewrite(query, mark, idx)?;
+    query.store.is_owned(to, query.subpat).then_some(to)
 }
 
-pub(crate) fn exact<H: Host, R: EqRewriter>(
-    store: Store,
-    host: &H,
-    aside: &[usize],
+// The first such node.
+fn first_owned<H: Host, R: EqRewriter>(
+    query: &Query<'_, H>,
+    rewriter: &R,
+    mark: usize,
+    count: usize,
+) -> Option<usize>
+    ensures { IsFirstOf (owned_at H.Host.meaning (R.EqRewriter.rewriter rewriter.now) query.now mark) count result }
+{
+    (0..count).find_map(|i| owned_offer(query, rewriter, mark, i))
+}
+
+// A pair that leads from the term to the pattern term, by the first offer that does.
+pub(crate) fn owned_pair<H: Host, R: EqRewriter>(
+    query: &Query<'_, H>,
     rewriter: &mut R,
-    blame: usize,
-    term: usize,
-) -> Whole
-    ensures found { whole_hit result (R.EqRewriter.state rewriter.new) ≡ exact (view (tables store.entry)) (asking (R.EqRewriter.rewriter rewriter.old (tables store.entry)) (H.Host.meaning host.now (tables store.entry)) aside.now) term blame (R.EqRewriter.state rewriter.old) }
+) -> Option<Pair>
+    ensures found { pair_hit result (R.EqRewriter.state rewriter.new) ≡ found_owned H.Host.meaning (R.EqRewriter.rewriter rewriter.old) query.now (R.EqRewriter.state rewriter.old) (R.EqRewriter.state rewriter.new) }
+    ensures moves { R.EqRewriter.state rewriter.new ≡ (R.EqRewriter.rewriter rewriter.old (tables query.now.store)).next (R.EqRewriter.state rewriter.old) (meant H.Host.meaning query.now) }
     ensures same { R.EqRewriter.rewriter rewriter.new ≡ R.EqRewriter.rewriter rewriter.old }
 {
-    if blame == term {
-        return Whole::Same;
-    }
     let mark = rewriter.mark();
-    match rewriter.possible_rewrite_count(store, host, aside, blame, term) {
-        Some(offered) => first_owned(
-            store,
-            host,
-            aside,
-            rewriter,
-            blame,
-            term,
-            mark,
-            offered.from,
-            offered.count,
-        ),
-        None => Whole::Not,
-    }
+    let offered = rewriter.possible_rewrite_count(query)?;
+    first_owned(query, rewriter, mark, offered.count).map(|to| Pair {
+        from: offered.from,
+        to,
+    })
 }

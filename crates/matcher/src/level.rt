@@ -1,18 +1,15 @@
 // What the search keeps of a place while its children are matched.
-use request::Pair;
+use rewrite::Offered;
 
-// A level matches the children of the term itself, or has asked and goes through the offers.
+// The offers of a query: the mark just after it, what was offered, and how many are tried.
 #[derive(Clone, Copy)]
-pub(crate) enum Phase {
-    Plain,
-    Offered {
-        from: usize,
-        count: usize,
-        tried: usize,
-    },
+pub(crate) struct Trying {
+    pub after: usize,
+    pub offered: Offered,
+    pub tried: usize,
 }
 
-#[derive(Clone, Copy)]
+#[derive(Clone, Copy, Default)]
 pub(crate) struct Level {
     // the term and the pattern term
     pub blame: usize,
@@ -20,10 +17,10 @@ pub(crate) struct Level {
     // whose children are matched now, and the next of them
     pub term: usize,
     pub child: usize,
-    // the marks before and after the query
+    // the mark before the query
     pub before: usize,
-    pub after: usize,
-    pub phase: Phase,
+    // the offers, once it has asked; none while the children of the term itself are matched
+    pub phase: Option<Trying>,
     // how many pairs lay there when it began
     pub start: usize,
 }
@@ -36,19 +33,16 @@ pub(crate) enum Mode {
     Miss,
 }
 
-// How a term is matched whole: it is the same, or one pair leads to it, or not at all.
-#[derive(Clone, Copy)]
-pub(crate) enum Whole {
-    Same,
-    By(Pair),
-    Not,
-}
-
-// What kind of place a pattern term is: a variable that is bound or not, a term that is matched whole, or an application.
+// What kind of place a pattern term is, unless it is a variable that is not bound: a place where some term is matched whole, or an application.
 #[derive(Clone, Copy)]
 pub(crate) enum Place {
-    Bound(usize),
-    Unbound,
-    Whole,
+    Whole(usize),
     Opened,
+}
+
+// An offer that is taken: its node, and the term that owns it.
+#[derive(Clone, Copy)]
+pub(crate) struct Taken {
+    pub node: usize,
+    pub term: usize,
 }

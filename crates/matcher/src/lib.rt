@@ -7,8 +7,10 @@ mod exact;
 mod level;
 mod machine;
 mod place;
+mod setting;
 
 pub use machine::{Pairs, PatternMatcher};
+pub use setting::Setting;
 
 // The eight worked cases, as one set.
 pub fn worked_cases()

@@ -1,11 +1,12 @@
 // Terms as the search sees them.
 ghost use Rattle.std.specs.Prelude.{◌≡◌};
-ghost use Rattle.matcher.specs.Trees.{fits_as, below_as};
 ghost use Rattle.matcher.specs.Machine.{PlaceIs};
+ghost use Rattle.matcher.specs.Stepping.{taken_by};
+ghost use Rattle.matcher.specs.Trees.{fits_as, below_as};
 ghost use Rattle.request.specs.Asked.{asked};
-ghost use Rattle.store.specs.Tables.{tables, term_at};
+ghost use Rattle.store.specs.Tables.{tables, term_at, owner_of};
 
-use crate::level::Place;
+use crate::level::{Place, Taken};
 use request::Request;
 use store::{HasVar, Store, TermKind};
 
@@ -13,36 +14,39 @@ use store::{HasVar, Store, TermKind};
 pub(crate) fn fits(store: Store, blame: usize, subpat: usize) -> bool
     ensures { result ≡ fits_as (term_at (tables store.entry) blame) (term_at (tables store.entry) subpat) }
 {
-    let Some(b) = store.term(blame) else {
-        return false;
-    };
-    let Some(s) = store.term(subpat) else {
-        return false;
-    };
-    b.can_match(s)
+    match (store.term(blame), store.term(subpat)) {
+        (Some(b), Some(s)) => b.can_match(s),
+        _ => false,
+    }
+}
+
+// The offer of a node, if the term that owns it fits.
+pub(crate) fn taken(store: Store, node: usize, subpat: usize) -> Option<Taken>
+    ensures { result ≡ taken_by (tables store.entry) subpat node (owner_of (tables store.entry) node) }
+{
+    let term = store.owner(node)?;
+    fits(store, term, subpat).then_some(Taken { node, term })
 }
 
 pub(crate) fn below<'a>(store: Store<'a>, term: usize) -> &'a [usize]
     ensures { result.now ≡ below_as (tables store.entry) (term_at (tables store.entry) term) }
 {
-    match store.term(term) {
-        Some(t) => store.kids(t),
-        None => &[],
-    }
+    store.children(term).unwrap_or(&[])
 }
 
-pub(crate) fn place(request: Request, subpat: usize) -> Place
+// A variable that is bound stands for the term that it is bound to.
+pub(crate) fn place(request: Request, subpat: usize) -> Option<Place>
     ensures { PlaceIs (asked request.entry) subpat result }
 {
     let Some(term) = request.store.term(subpat) else {
-        return Place::Whole;
+        return Some(Place::Whole(subpat));
     };
     match (term.kind, term.has_var) {
-        (TermKind::Var(v), _) => match request.bound.bound_term(request.store, v) {
-            Some(t) => Place::Bound(t),
-            None => Place::Unbound,
-        },
-        (TermKind::App(_), HasVar::Yes | HasVar::Unknown) => Place::Opened,
-        _ => Place::Whole,
+        (TermKind::Var(v), _) => {
+            let bound = request.bound.bound_term(request.store, v)?;
+            Some(Place::Whole(bound))
+        }
+        (TermKind::App(_), HasVar::Yes | HasVar::Unknown) => Some(Place::Opened),
+        _ => Some(Place::Whole(subpat)),
     }
 }

@@ -1,39 +1,33 @@
 // The turns of the machine.
-ghost use Rattle.std.specs.Prelude.{◌≡◌, ℕ, ◌<◌, [], ◌∷◌, length};
-ghost use Rattle.matcher.specs.declared.level.Mode.TheVariants.{Down, Hit, Miss};
-ghost use Rattle.matcher.specs.declared.level.Phase.TheVariants.{Offered};
-ghost use Rattle.matcher.specs.Machine.{Stacked};
-ghost use Rattle.matcher.specs.Search.{asking};
-ghost use Rattle.matcher.specs.Stepping.{stack, Settles, Opens, Advances, Asks, Takes, taken, MachineSound, Steps, StepsOff, Turned};
+ghost use Rattle.std.specs.Prelude.{◌≡◌, ℕ, ◌<◌, [], ◌∷◌, length, Some};
+ghost use Rattle.matcher.specs.declared.level.Mode.TheVariants.{Down, Miss};
+ghost use Rattle.matcher.specs.Settings.{Sound, StackedOff, AsksAt, Steps, StepsOff, Turned};
+ghost use Rattle.matcher.specs.Stepping.{stack, Settles, Opens, Advances, Takes};
 ghost use Rattle.matcher.specs.Trees.{below_as};
-ghost use Rattle.request.specs.Asked.{asked};
-ghost use Rattle.rewrite.specs.Meaning.{returned, query};
 ghost use Rattle.store.specs.Held.{held};
 ghost use Rattle.std.specs.List.{slice_get};
 ghost use Rattle.store.specs.Tables.{tables, term_at};
 
 use super::PatternMatcher;
-use crate::exact::exact;
-use crate::level::{Level, Mode, Phase, Place, Whole};
-use crate::place::{below, fits, place};
+use crate::exact::owned_pair;
+use crate::level::{Level, Mode, Place, Taken, Trying};
+use crate::place::{below, fits, place, taken};
+use crate::setting::Setting;
 use host::Host;
-use request::{Pair, Request};
+use request::Pair;
 use rewrite::EqRewriter;
 use store::{Store, lookup};
 
 impl PatternMatcher {
-    // A term that was matched whole, or not.
-    fn settle(&mut self, whole: Whole)
+    // A term that was matched whole by a pair, or not.
+    fn settle(&mut self, by: Option<Pair>)
         requires { length (held self.old.pairs) < 64 }
-        ensures { Settles self.old whole self.new }
+        ensures { Settles self.old by self.new }
     {
-        match whole {
-            Whole::Same => self.mode = Mode::Hit,
-            Whole::By(pair) => {
-                let _ = self.pairs.push(pair);
-                self.mode = Mode::Hit;
-            }
-            Whole::Not => self.mode = Mode::Miss,
+        self.mode = Mode::Miss;
+        if let Some(pair) = by {
+            let _ = self.pairs.push(pair);
+            self.mode = Mode::Hit;
         }
     }
 
@@ -48,8 +42,7 @@ impl PatternMatcher {
             term: blame,
             child: 0,
             before: mark,
-            after: mark,
-            phase: Phase::Plain,
+            phase: None,
             start: self.pairs.count(),
         });
         self.mode = if fits(store, blame, subpat) {
@@ -62,35 +55,29 @@ impl PatternMatcher {
     // Enters a place.
     fn on_down<H: Host, R: EqRewriter>(
         &mut self,
-        request: Request,
-        host: &H,
-        aside: &[usize],
+        setting: &Setting<'_, H>,
         rewriter: &mut R,
         blame: usize,
         subpat: usize,
     )
         requires mode { self.old.mode ≡ Down blame subpat }
-        requires sound { MachineSound (asked request) (R.EqRewriter.rewriter rewriter.old (tables request.store)) (asking (R.EqRewriter.rewriter rewriter.old (tables request.store)) (H.Host.meaning host.now (tables request.store)) aside.now) self.old (R.EqRewriter.state rewriter.old) }
-        ensures steps { Steps (asked request.entry) (R.EqRewriter.rewriter rewriter.old (tables request.entry.store)) (H.Host.meaning host.now (tables request.entry.store)) aside.now self.old (R.EqRewriter.state rewriter.old) self.new (R.EqRewriter.state rewriter.new) }
-        ensures same { R.EqRewriter.rewriter rewriter.new ≡ R.EqRewriter.rewriter rewriter.old }
+        requires sound { Sound H.Host.meaning R.EqRewriter.rewriter R.EqRewriter.state setting.now self.old rewriter.old }
+        ensures { Steps H.Host.meaning R.EqRewriter.rewriter R.EqRewriter.state setting.now self.old rewriter.old self.new rewriter.new }
     {
         if blame == subpat {
             self.mode = Mode::Hit;
             return;
         }
-        match place(request, subpat) {
-            Place::Unbound => self.mode = Mode::Miss,
-            Place::Bound(term) => {
-                let whole = exact(request.store, host, aside, rewriter, blame, term);
-                self.settle(whole);
+        match place(setting.request, subpat) {
+            None => self.mode = Mode::Miss,
+            Some(Place::Whole(term)) if blame == term => self.mode = Mode::Hit,
+            Some(Place::Whole(term)) => {
+                let by = owned_pair(&setting.query(blame, term), rewriter);
+                self.settle(by);
             }
-            Place::Whole => {
-                let whole = exact(request.store, host, aside, rewriter, blame, subpat);
-                self.settle(whole);
-            }
-            Place::Opened => {
+            Some(Place::Opened) => {
                 let mark = rewriter.mark();
-                self.open(request.store, blame, subpat, mark);
+                self.open(setting.request.store, blame, subpat, mark);
             }
         }
     }
@@ -120,151 +107,95 @@ impl PatternMatcher {
     // The term itself has failed: asks for offers, from the state before.
     fn ask<H: Host, R: EqRewriter>(
         &mut self,
-        store: Store,
-        host: &H,
-        aside: &[usize],
+        setting: &Setting<'_, H>,
         rewriter: &mut R,
         level: Level,
     )
         requires { length (held self.old.levels) < 64 }
-        ensures asks { Asks self.old level ((R.EqRewriter.rewriter rewriter.old (tables store.entry)).ask (returned (R.EqRewriter.rewriter rewriter.old (tables store.entry)) level.before) (query (H.Host.meaning host.now (tables store.entry)) aside.now level.blame level.subpat)) (R.EqRewriter.state rewriter.new) self.new }
-        ensures moves { R.EqRewriter.state rewriter.new ≡ (R.EqRewriter.rewriter rewriter.old (tables store.entry)).next (returned (R.EqRewriter.rewriter rewriter.old (tables store.entry)) level.before) (query (H.Host.meaning host.now (tables store.entry)) aside.now level.blame level.subpat) }
-        ensures same { R.EqRewriter.rewriter rewriter.new ≡ R.EqRewriter.rewriter rewriter.old }
+        ensures { AsksAt H.Host.meaning R.EqRewriter.rewriter R.EqRewriter.state setting.now self.old level rewriter.old self.new rewriter.new }
     {
         rewriter.back(level.before);
         self.mode = Mode::Miss;
-        if let Some(offered) = rewriter.possible_rewrite_count(
-            store,
-            host,
-            aside,
-            level.blame,
-            level.subpat,
-        ) {
-            let after = rewriter.mark();
-            let phase = Phase::Offered {
-                from: offered.from,
-                count: offered.count,
+        let query = setting.query(level.blame, level.subpat);
+        if let Some(offered) = rewriter.possible_rewrite_count(&query) {
+            let phase = Some(Trying {
+                after: rewriter.mark(),
+                offered,
                 tried: 0,
-            };
-            let _ = self.levels.push(Level {
-                after,
-                phase,
-                ..level
             });
+            let _ = self.levels.push(Level { phase, ..level });
         }
     }
 
-    // Takes an offer, if the term that owns it fits.
-    fn take_offer(&mut self, store: Store, level: Level, from: usize, to: Option<usize>)
+    // Goes on with an offer that fits, else leaves the level to the next.
+    fn take(&mut self, level: Level, from: usize, offer: Option<Taken>)
         requires levels { length (held self.old.levels) < 64 }
         requires pairs { length (held self.old.pairs) < 64 }
-        ensures { Takes self.old level from (taken (tables store.entry) level.subpat to) self.new }
+        ensures { Takes self.old level from offer self.new }
     {
-        let Some(node) = to else {
+        let Some(Taken { node, term }) = offer else {
             let _ = self.levels.push(level);
             self.mode = Mode::Miss;
             return;
         };
-        match store.owner(node) {
-            Some(term) if fits(store, term, level.subpat) => {
-                let _ = self.pairs.push(Pair { from, to: node });
-                let _ = self.levels.push(Level {
-                    term,
-                    child: 0,
-                    ..level
-                });
-                self.mode = Mode::Hit;
-            }
-            _ => {
-                let _ = self.levels.push(level);
-                self.mode = Mode::Miss;
-            }
-        }
+        let _ = self.pairs.push(Pair { from, to: node });
+        let _ = self.levels.push(Level {
+            term,
+            child: 0,
+            ..level
+        });
+        self.mode = Mode::Hit;
     }
 
     // An offer has failed, or none is tried yet: takes the next one, from the state just after the query.
     fn offer<H: Host, R: EqRewriter>(
         &mut self,
-        request: Request,
-        host: &H,
-        aside: &[usize],
+        setting: &Setting<'_, H>,
         rewriter: &mut R,
         level: Level,
-        from: usize,
-        count: usize,
-        tried: usize,
+        trying: Trying,
     )
-        requires phase { level.phase ≡ Offered from count tried }
-        requires sound { Stacked (asked request) (R.EqRewriter.rewriter rewriter.old (tables request.store)) (asking (R.EqRewriter.rewriter rewriter.old (tables request.store)) (H.Host.meaning host.now (tables request.store)) aside.now) (level ∷ stack self.old) }
-        ensures steps { StepsOff (asked request.entry) (R.EqRewriter.rewriter rewriter.old (tables request.entry.store)) (H.Host.meaning host.now (tables request.entry.store)) aside.now level Miss self.old (R.EqRewriter.state rewriter.old) self.new (R.EqRewriter.state rewriter.new) }
-        ensures same { R.EqRewriter.rewriter rewriter.new ≡ R.EqRewriter.rewriter rewriter.old }
+        requires phase { level.phase ≡ Some trying }
+        requires sound { StackedOff H.Host.meaning R.EqRewriter.rewriter R.EqRewriter.state setting.now level self.old rewriter.old }
+        ensures { StepsOff H.Host.meaning R.EqRewriter.rewriter R.EqRewriter.state setting.now level Miss self.old rewriter.old self.new rewriter.new }
     {
-        if tried >= count {
+        if trying.tried >= trying.offered.count {
             self.mode = Mode::Miss;
             return;
         }
-        rewriter.back(level.after);
+        rewriter.back(trying.after);
         self.pairs.truncate(level.start);
-        let to = rewriter.possible_rewrite(
-            request.store,
-            host,
-            aside,
-            level.blame,
-            level.subpat,
-            level.before,
-            tried,
-        );
-        let phase = Phase::Offered {
-            from,
-            count,
-            tried: tried + 1,
-        };
-        self.take_offer(request.store, Level { phase, ..level }, from, to);
-    }
-
-    // Goes on after a failure: with the query, or with the next offer.
-    fn on_miss<H: Host, R: EqRewriter>(
-        &mut self,
-        request: Request,
-        host: &H,
-        aside: &[usize],
-        rewriter: &mut R,
-        level: Level,
-    )
-        requires { Stacked (asked request) (R.EqRewriter.rewriter rewriter.old (tables request.store)) (asking (R.EqRewriter.rewriter rewriter.old (tables request.store)) (H.Host.meaning host.now (tables request.store)) aside.now) (level ∷ stack self.old) }
-        ensures steps { StepsOff (asked request.entry) (R.EqRewriter.rewriter rewriter.old (tables request.entry.store)) (H.Host.meaning host.now (tables request.entry.store)) aside.now level Miss self.old (R.EqRewriter.state rewriter.old) self.new (R.EqRewriter.state rewriter.new) }
-        ensures same { R.EqRewriter.rewriter rewriter.new ≡ R.EqRewriter.rewriter rewriter.old }
-    {
-        match level.phase {
-            Phase::Plain => self.ask(request.store, host, aside, rewriter, level),
-            Phase::Offered { from, count, tried } => {
-                self.offer(request, host, aside, rewriter, level, from, count, tried);
-            }
-        }
+        let query = setting.query(level.blame, level.subpat);
+        let taken = rewriter
+            .possible_rewrite(&query, level.before, trying.tried)
+            .and_then(|node| taken(query.store, node, level.subpat));
+        let phase = Some(Trying {
+            tried: trying.tried + 1,
+            ..trying
+        });
+        self.take(Level { phase, ..level }, trying.offered.from, taken);
     }
 
     // One turn; false where nothing is left to do.
     pub(super) fn turn<H: Host, R: EqRewriter>(
         &mut self,
-        request: Request,
-        host: &H,
-        aside: &[usize],
+        setting: &Setting<'_, H>,
         rewriter: &mut R,
     ) -> bool
-        requires { MachineSound (asked request) (R.EqRewriter.rewriter rewriter.old (tables request.store)) (asking (R.EqRewriter.rewriter rewriter.old (tables request.store)) (H.Host.meaning host.now (tables request.store)) aside.now) self.old (R.EqRewriter.state rewriter.old) }
-        ensures turned { Turned (asked request.entry) (R.EqRewriter.rewriter rewriter.old (tables request.entry.store)) (H.Host.meaning host.now (tables request.entry.store)) aside.now self.old (R.EqRewriter.state rewriter.old) self.new (R.EqRewriter.state rewriter.new) result }
-        ensures same { R.EqRewriter.rewriter rewriter.new ≡ R.EqRewriter.rewriter rewriter.old }
+        requires { Sound H.Host.meaning R.EqRewriter.rewriter R.EqRewriter.state setting.now self.old rewriter.old }
+        ensures { Turned H.Host.meaning R.EqRewriter.rewriter R.EqRewriter.state setting.now self.old rewriter.old result self.new rewriter.new }
     {
         if let Mode::Down { blame, subpat } = self.mode {
-            self.on_down(request, host, aside, rewriter, blame, subpat);
+            self.on_down(setting, rewriter, blame, subpat);
             return true;
         }
         let Some(level) = self.levels.pop() else {
             return false;
         };
-        match self.mode {
-            Mode::Hit => self.on_hit(request.store, level),
-            _ => self.on_miss(request, host, aside, rewriter, level),
+        match (self.mode, level.phase) {
+            (Mode::Hit, _) => self.on_hit(setting.request.store, level),
+            (_, None) => self.ask(setting, rewriter, level),
+            (_, Some(trying)) => self.offer(setting, rewriter, level, trying),
         }
         true
     }

@@ -1,29 +1,23 @@
-use Rattle.std.proofs.Common.{◌<◌, length, sym, refl, ap, ◌∙◌, subst}
+use Rattle.std.proofs.Common.{◌≡◌, ◌<◌, length, sym, refl, ap, ◌∙◌, subst, rules}
 use Rattle.store.specs.Tables.{tables}
 use Rattle.request.specs.Asked.{asked}
-use Rattle.rewrite.specs.Meaning.{query, offer_at}
-use Rattle.matcher.proofs.Missing.{levels_room, pairs_room, none_turn, take_turn}
+use Rattle.rewrite.specs.Meaning.{offer_at}
+use Rattle.matcher.specs.Settings.{tables_at, answered}
+use Rattle.matcher.specs.Stepping.{taken}
+use Rattle.matcher.proofs.Missing.{pairs_room, take_turn}
 use Rattle.matcher.proofs.machine.PatternMatcher.offer.Goals as goal
 
-pub returns-then-tried-count : goal.returns-then-tried-count
-returns-then-tried-count g c = record {
-  steps = none_turn (asked c.args.request) _ _ c.args.self.now c.args.level c.requires.sound _ _ _ c.requires.phase _ (g.R.EqRewriter.state c.args.rewriter.now) c.if-tried-count.true refl refl refl;
-  same = refl;
-}
-
-pub take_offer-requires : goal.take_offer-requires
-take_offer-requires g c = record {
-  levels = levels_room (asked c.args.request) _ _ c.args.self.now c.args.level c.requires.sound;
-  pairs = subst (λ n. n < 64) (ap length (sym c.truncate.ensures)) (pairs_room (asked c.args.request) _ _ c.args.self.now c.args.level c.requires.sound);
-}
+pub take-requires-clause-pairs : goal.take-requires-clause-pairs
+take-requires-clause-pairs g c = subst (λ n. n < 64) (ap length (sym c.truncate.ensures)) (pairs_room (asked c.args.setting.now.request) _ _ c.args.self.now c.args.level c.requires.sound)
 
 pub returns : goal.returns
 returns g c =
-    let S = tables c.args.request.store in
-    let m = g.H.Host.meaning c.args.host.now S in
-    let q = query m c.args.aside.now c.args.level.blame c.args.level.subpat in
+    let t = c.args.setting.now in
+    let l = c.args.level in
+    let S = tables c.query-query.result.store in
+    let is : c.and_then-taken.result ≡ taken S l.subpat c.possible_rewrite.result = search rules in
+    let here = is ∙ ap (taken S l.subpat) c.possible_rewrite.ensures ∙ (λ j. taken (tables (c.query-query.ensures j).store) l.subpat (offer_at (answered g.H.Host.meaning (c.back.ensures.same j) (c.query-query.ensures j) l.before) c.args.trying.tried)) in
     record {
-      steps = take_turn (asked c.args.request) _ _ c.args.self.now c.args.level c.requires.sound _ _ _ c.requires.phase _ c.take_offer.new.self (g.R.EqRewriter.state c.args.rewriter.now) _ c.possible_rewrite-to.result c.if-tried-count.false (c.back.ensures.goes S) refl c.truncate.ensures
-          (c.possible_rewrite-to.ensures ∙ ap (λ r. offer_at ((r S).ask c.args.level.before q) c.args.tried) c.back.ensures.same) c.take_offer.ensures;
+      steps = take_turn (asked t.request) _ _ c.args.self.now l c.requires.sound c.args.trying c.requires.phase _ c.take.new.self (g.R.EqRewriter.state c.args.rewriter.now) _ _ c.if-trying.false (c.back.ensures.goes (tables_at t)) refl c.truncate.ensures here c.take.ensures;
       same = c.back.ensures.same;
     }
