@@ -8,7 +8,6 @@ use Rattle.store.specs.declared.term.HasVar.TheVariants.{No, Yes, Unknown}
 use Rattle.store.specs.declared.term.Term.{Term}
 use Rattle.store.specs.declared.term.TermKind.{TermKind}
 use Rattle.store.specs.declared.term.TermKind.TheVariants.{Var, App, Quant}
-use Rattle.store.specs.Held.{held}
 use Rattle.store.specs.Tables.{term_at, kids}
 use Rattle.request.specs.declared.kinds.Pair.{Pair}
 use Rattle.request.specs.Asked.{Asked}
@@ -133,10 +132,10 @@ kept_stack hs l None b = ap reverse (append-nil hs)
 kept_stack hs l (Some s) None = reverse-append hs (l ∷ [])
 kept_stack hs l (Some s) (Some b) = reverse-append hs (next_child l ∷ [])
 
-pub advance_turn : (R : Asked) (ρ : RewriterMeaning) (A : Asking) (M M' : PatternMatcher) (l : Level) (st : ℕ) (s b : Option ℕ) → Stacked R ρ A (l ∷ stack M) → ModeSound R ρ (l ∷ stack M) (held M.pairs) st Hit → slice_get (below_as R.store (term_at R.store l.subpat)) l.child ≡ s → slice_get ((view R.store).below l.term) l.child ≡ b → Advances M l s b M' → Stepped R ρ A (left R A (l ∷ stack M) (held M.pairs) Hit st) M' st
+pub advance_turn : (R : Asked) (ρ : RewriterMeaning) (A : Asking) (M M' : PatternMatcher) (l : Level) (st : ℕ) (s b : Option ℕ) → Stacked R ρ A (l ∷ stack M) → ModeSound R ρ (l ∷ stack M) M.pairs st Hit → slice_get (below_as R.store (term_at R.store l.subpat)) l.child ≡ s → slice_get ((view R.store).below l.term) l.child ≡ b → Advances M l s b M' → Stepped R ρ A (left R A (l ∷ stack M) M.pairs Hit st) M' st
 advance_turn R ρ A M M' l st s b stacked here e f done =
-    stepped_at R ρ A (left R A (l ∷ stack M) (held M.pairs) Hit st) M' st (kept_level l s b ++ stack M) (held M.pairs) (next_mode s b)
-    (ap reverse done.levels ∙ kept_stack (held M.levels) l s b) (ap held done.pairs) done.mode
-    (advance R ρ A l (stack M) (held M.pairs) st stacked.0 s b e f)
-    (advance_levels R ρ A l (stack M) (held M.pairs) st stacked.0 s b stacked.1)
-    (advance_mode R ρ A l (stack M) (held M.pairs) st stacked.0 s b e here)
+    stepped_at R ρ A (left R A (l ∷ stack M) M.pairs Hit st) M' st (kept_level l s b ++ stack M) M.pairs (next_mode s b)
+    (ap reverse done.levels ∙ kept_stack M.levels l s b) done.pairs done.mode
+    (advance R ρ A l (stack M) M.pairs st stacked.0 s b e f)
+    (advance_levels R ρ A l (stack M) M.pairs st stacked.0 s b stacked.1)
+    (advance_mode R ρ A l (stack M) M.pairs st stacked.0 s b e here)

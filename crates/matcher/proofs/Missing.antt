@@ -4,7 +4,6 @@ use mathlib.Core.Path.{transport}
 use Rattle.std.specs.List.{slice_get}
 use Rattle.std.proofs.lemmas.List.{reverse-append, length_push, length-reverse}
 use Rattle.store.proofs.Decided.{some_not_none, nth_there}
-use Rattle.store.specs.Held.{held}
 use Rattle.store.specs.Tables.{term_at, owner_of}
 use Rattle.request.specs.declared.kinds.Pair.{Pair}
 use Rattle.request.specs.Asked.{Asked}
@@ -73,43 +72,43 @@ module _ (R : Asked) (ρ : RewriterMeaning) (A : Asking) (l : Level) (ls : List 
     take_mode (Some t) = (omega (arith, length_push (take l.start acc) (ends w.offered.from t.node), length-take l.start acc, size_now R ρ A l ls acc 0 ok), phased.4)
 
 module _ (R : Asked) (ρ : RewriterMeaning) (A : Asking) (M : PatternMatcher) (l : Level) (stacked : Stacked R ρ A (l ∷ stack M)) where
-  pub levels_room : length (held M.levels) < 64
-  levels_room = omega (arith, stacked.0.shallow, size_now R ρ A l (stack M) [] 0 stacked.0, length-reverse (held M.levels))
+  pub levels_room : length M.levels < 64
+  levels_room = omega (arith, stacked.0.shallow, size_now R ρ A l (stack M) [] 0 stacked.0, length-reverse M.levels)
 
-  pub pairs_room : length (take l.start (held M.pairs)) < 64
-  pairs_room = omega (arith, stacked.0.room, size_now R ρ A l (stack M) [] 0 stacked.0, cap_64 R ρ A (stack M) stacked.1, length-take l.start (held M.pairs))
+  pub pairs_room : length (take l.start M.pairs) < 64
+  pairs_room = omega (arith, stacked.0.room, size_now R ρ A l (stack M) [] 0 stacked.0, cap_64 R ρ A (stack M) stacked.1, length-take l.start M.pairs)
 
   module _ (w : Trying) (p : l.phase ≡ Some w) where
-    pub take_turn : (N M' : PatternMatcher) (st st' : ℕ) (o : Option Taken) → w.tried < w.offered.count → st' ≡ returned ρ w.after → N.levels ≡ M.levels → held N.pairs ≡ take l.start (held M.pairs) → o ≡ taken R.store l.subpat (offer_at (A.ask l.before l.blame l.subpat) w.tried) → Takes N (with_one_more R ρ A l (stack M) (held M.pairs) stacked.0 w p) w.offered.from o M' → Stepped R ρ A (left R A (l ∷ stack M) (held M.pairs) Miss st) M' st'
-    take_turn N M' st st' o h back e g is done = subst (Stepped R ρ A (left R A (l ∷ stack M) (held M.pairs) Miss st) M') (sym (back ∙ ap (λ q. cond q w.after ρ.first) ph.4)) (go (offer_at (A.ask l.before l.blame l.subpat) w.tried) (ap (λ a. offer_at a w.tried) ph.1) (subst (λ x. Takes N l' w.offered.from x M') is done))
+    pub take_turn : (N M' : PatternMatcher) (st st' : ℕ) (o : Option Taken) → w.tried < w.offered.count → st' ≡ returned ρ w.after → N.levels ≡ M.levels → N.pairs ≡ take l.start M.pairs → o ≡ taken R.store l.subpat (offer_at (A.ask l.before l.blame l.subpat) w.tried) → Takes N (with_one_more R ρ A l (stack M) M.pairs stacked.0 w p) w.offered.from o M' → Stepped R ρ A (left R A (l ∷ stack M) M.pairs Miss st) M' st'
+    take_turn N M' st st' o h back e g is done = subst (Stepped R ρ A (left R A (l ∷ stack M) M.pairs Miss st) M') (sym (back ∙ ap (λ q. cond q w.after ρ.first) ph.4)) (go (offer_at (A.ask l.before l.blame l.subpat) w.tried) (ap (λ a. offer_at a w.tried) ph.1) (subst (λ x. Takes N l' w.offered.from x M') is done))
       where
         ph : PhaseSound ρ A l (Some w)
-        ph = phased R ρ A l (stack M) (held M.pairs) stacked.0 w p
+        ph = phased R ρ A l (stack M) M.pairs stacked.0 w p
 
         l' : Level
-        l' = with_one_more R ρ A l (stack M) (held M.pairs) stacked.0 w p
+        l' = with_one_more R ρ A l (stack M) M.pairs stacked.0 w p
 
-        go : (to : Option ℕ) → to ≡ slice_get ph.0 w.tried → Takes N l' w.offered.from (taken R.store l.subpat to) M' → Stepped R ρ A (left R A (l ∷ stack M) (held M.pairs) Miss st) M' w.after
+        go : (to : Option ℕ) → to ≡ slice_get ph.0 w.tried → Takes N l' w.offered.from (taken R.store l.subpat to) M' → Stepped R ρ A (left R A (l ∷ stack M) M.pairs Miss st) M' w.after
         go None is done = let there = nth_there ph.0 w.tried (omega (arith, h, ph.2)) in absurd (some_not_none (slice_get ph.0 w.tried) there.0 is there.1)
         go (Some m) is done =
             let o = taken R.store l.subpat (Some m) in
-            stepped_at R ρ A (left R A (l ∷ stack M) (held M.pairs) Miss st) M' w.after (taken_level l' o ∷ stack M) (taken_pairs (take l.start (held M.pairs)) w.offered.from o) (taken_mode o)
-            (ap reverse done.levels ∙ reverse-append (held N.levels) (taken_level l' o ∷ []) ∙ ap (λ x. taken_level l' o ∷ reverse (held x)) e)
+            stepped_at R ρ A (left R A (l ∷ stack M) M.pairs Miss st) M' w.after (taken_level l' o ∷ stack M) (taken_pairs (take l.start M.pairs) w.offered.from o) (taken_mode o)
+            (ap reverse done.levels ∙ reverse-append N.levels (taken_level l' o ∷ []) ∙ ap (λ x. taken_level l' o ∷ reverse x) e)
             (done.pairs ∙ ap (λ x. taken_pairs x w.offered.from o) g) done.mode
-            (take_eq R ρ A l (stack M) (held M.pairs) stacked.0 w p st m (sym is))
-            (take_level R ρ A l (stack M) (held M.pairs) stacked.0 w p o, stacked.1)
-            (take_mode R ρ A l (stack M) (held M.pairs) stacked.0 w p o)
+            (take_eq R ρ A l (stack M) M.pairs stacked.0 w p st m (sym is))
+            (take_level R ρ A l (stack M) M.pairs stacked.0 w p o, stacked.1)
+            (take_mode R ρ A l (stack M) M.pairs stacked.0 w p o)
 
 -- the top level taken off
-module _ (R : Asked) (ρ : RewriterMeaning) (A : Asking) (M N : PatternMatcher) (l : Level) (mode : Mode) (st : ℕ) (is : M.mode ≡ mode) (popped : held M.levels ≡ held N.levels ++ l ∷ []) (same : N.pairs ≡ M.pairs) where
+module _ (R : Asked) (ρ : RewriterMeaning) (A : Asking) (M N : PatternMatcher) (l : Level) (mode : Mode) (st : ℕ) (is : M.mode ≡ mode) (popped : M.levels ≡ N.levels ++ l ∷ []) (same : N.pairs ≡ M.pairs) where
   off_stack : stack M ≡ l ∷ stack N
-  off_stack = ap reverse popped ∙ reverse-append (held N.levels) (l ∷ [])
+  off_stack = ap reverse popped ∙ reverse-append N.levels (l ∷ [])
 
   pub off_stacked : MachineSound R ρ A M st → Stacked R ρ A (l ∷ stack N)
   off_stacked sound = subst (Stacked R ρ A) off_stack sound.levels
 
-  pub off_here : MachineSound R ρ A M st → ModeSound R ρ (l ∷ stack N) (held N.pairs) st mode
-  off_here sound = transport (λ i. ModeSound R ρ (off_stack i) (held (sym same i)) st (is i)) sound.here
+  pub off_here : MachineSound R ρ A M st → ModeSound R ρ (l ∷ stack N) N.pairs st mode
+  off_here sound = transport (λ i. ModeSound R ρ (off_stack i) (sym same i) st (is i)) sound.here
 
-  pub off_turn : (M' : PatternMatcher) (st' : ℕ) → Stepped R ρ A (left R A (l ∷ stack N) (held N.pairs) mode st) M' st' → Stepped R ρ A (machine_left R A M st) M' st'
-  off_turn M' st' done = record { one_step = (λ i. left R A (off_stack i) (held (sym same i)) (is i) st) ∙ done.one_step; sound = done.sound }
+  pub off_turn : (M' : PatternMatcher) (st' : ℕ) → Stepped R ρ A (left R A (l ∷ stack N) N.pairs mode st) M' st' → Stepped R ρ A (machine_left R A M st) M' st'
+  off_turn M' st' done = record { one_step = (λ i. left R A (off_stack i) (sym same i) (is i) st) ∙ done.one_step; sound = done.sound }

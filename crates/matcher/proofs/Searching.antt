@@ -1,7 +1,6 @@
 -- From a fresh matcher to what the search finds.
 use Rattle.std.proofs.Common.{◌≡◌, ℕ, Bool, true, false, cond, List, [], reverse, Some, None, sym, refl, ap, ◌∙◌, subst, arith}
 use mathlib.Core.Path.{transport}
-use Rattle.store.specs.Held.{held}
 use Rattle.request.specs.Asked.{Asked}
 use Rattle.host.specs.Meaning.{HostMeaning}
 use Rattle.rewrite.specs.Meaning.{RewriterMeaning}
@@ -35,31 +34,31 @@ module _ (R : Asked) (M : PatternMatcher) (b s : ℕ) (new : Starts b s M) where
   start_answer A st = ap (λ (r : Run). r.answer) (λ i. left R A (empty i) (new.pairs i) (new.mode i) st) ∙ runs_alike (view R.store) A (part R s) b st
 
   -- ρ is the rewriter's meaning before the reset, after it, and after the run
-  module _ (ρ ρ₁ ρ₂ : RewriterMeaning) (m : HostMeaning) (ns : List ℕ) (M' : PatternMatcher) (st st' : ℕ) (fin : Finite R s) (first : st ≡ ρ.first) (was : ρ₁ ≡ ρ) (kept : ρ₂ ≡ ρ₁) (ended : (machine_left R (asking ρ₁ m ns) M st).answer ≡ stopped_with M'.mode (held M'.pairs) st') where
-    ends : (machine_left R (asking ρ m ns) M st).answer ≡ stopped_with M'.mode (held M'.pairs) st'
-    ends = subst (λ r. (machine_left R (asking r m ns) M st).answer ≡ stopped_with M'.mode (held M'.pairs) st') was ended
+  module _ (ρ ρ₁ ρ₂ : RewriterMeaning) (m : HostMeaning) (ns : List ℕ) (M' : PatternMatcher) (st st' : ℕ) (fin : Finite R s) (first : st ≡ ρ.first) (was : ρ₁ ≡ ρ) (kept : ρ₂ ≡ ρ₁) (ended : (machine_left R (asking ρ₁ m ns) M st).answer ≡ stopped_with M'.mode M'.pairs st') where
+    ends : (machine_left R (asking ρ m ns) M st).answer ≡ stopped_with M'.mode M'.pairs st'
+    ends = subst (λ r. (machine_left R (asking r m ns) M st).answer ≡ stopped_with M'.mode M'.pairs st') was ended
 
     finished_as : ρ.finished st' ≡ ρ₂.finished st'
     finished_as = ap (λ (r : RewriterMeaning). r.finished st') (sym (kept ∙ was))
 
-    sought : seek (view R.store) (asking ρ m ns) (part R s) b ρ.first ≡ stopped_with M'.mode (held M'.pairs) st'
+    sought : seek (view R.store) (asking ρ m ns) (part R s) b ρ.first ≡ stopped_with M'.mode M'.pairs st'
     sought = ap (λ x. seek (view R.store) (asking ρ m ns) (part R s) b x) (sym first) ∙ sym (start_answer (asking ρ m ns) st) ∙ ends
 
-    found_if : (x : Mode) (q : Bool) → ρ.finished st' ≡ q → success x q ≡ true → (if_finished ρ (stopped_with x (held M'.pairs) st') ≡ Some (held M'.pairs)) × (ends_in ρ (stopped_with x (held M'.pairs) st') ≡ st')
+    found_if : (x : Mode) (q : Bool) → ρ.finished st' ≡ q → success x q ≡ true → (if_finished ρ (stopped_with x M'.pairs st') ≡ Some M'.pairs) × (ends_in ρ (stopped_with x M'.pairs st') ≡ st')
     found_if (Down c t) q e f = absurd (true_false f)
-    found_if Hit q e f = (ap (λ q. cond q (Some (held M'.pairs)) None) (e ∙ f), ap (λ q. cond q st' ρ.first) (e ∙ f))
+    found_if Hit q e f = (ap (λ q. cond q (Some M'.pairs) None) (e ∙ f), ap (λ q. cond q st' ρ.first) (e ∙ f))
     found_if Miss q e f = absurd (true_false f)
 
-    pub found_at : success M'.mode (ρ₂.finished st') ≡ true → Searched R ρ m ns b s (Some (held M'.pairs)) st'
+    pub found_at : success M'.mode (ρ₂.finished st') ≡ true → Searched R ρ m ns b s (Some M'.pairs) st'
     found_at done = let some = found_if M'.mode (ρ₂.finished st') finished_as done in record {
       finds = λ _. sym (ap (if_finished ρ) sought ∙ some.0);
       leaves = λ _. sym (ap (ends_in ρ) sought ∙ some.1);
       too_large = λ big. absurd (big fin);
     }
 
-    none_if : (x : Mode) (q : Bool) → ρ.finished st' ≡ q → success x q ≡ false → (if_finished ρ (stopped_with x (held M'.pairs) st') ≡ None) × (ends_in ρ (stopped_with x (held M'.pairs) st') ≡ ρ.first)
+    none_if : (x : Mode) (q : Bool) → ρ.finished st' ≡ q → success x q ≡ false → (if_finished ρ (stopped_with x M'.pairs st') ≡ None) × (ends_in ρ (stopped_with x M'.pairs st') ≡ ρ.first)
     none_if (Down c t) q e f = (refl, refl)
-    none_if Hit q e f = (ap (λ q. cond q (Some (held M'.pairs)) None) (e ∙ f), ap (λ q. cond q st' ρ.first) (e ∙ f))
+    none_if Hit q e f = (ap (λ q. cond q (Some M'.pairs) None) (e ∙ f), ap (λ q. cond q st' ρ.first) (e ∙ f))
     none_if Miss q e f = (refl, refl)
 
     pub missed_at : (st'' : ℕ) → success M'.mode (ρ₂.finished st') ≡ false → st'' ≡ ρ₂.first → Searched R ρ m ns b s None st''

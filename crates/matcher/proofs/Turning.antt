@@ -3,7 +3,6 @@ use Rattle.std.proofs.Common.{◌≡◌, ℕ, suc, ◌<◌, ◌≤◌, Bool, tru
 use mathlib.Core.Path.{transport}
 use Rattle.std.proofs.lemmas.List.{reverse-append}
 use Rattle.std.proofs.lemmas.Bool.{ne_eqb, cond-false}
-use Rattle.store.specs.Held.{held}
 use Rattle.request.specs.declared.kinds.Pair.{Pair}
 use Rattle.request.specs.Asked.{Asked}
 use Rattle.request.specs.Places.{Preorder, place, opened}
@@ -26,7 +25,7 @@ places_some (app s ps) = omega arith
 
 module _ (R : Asked) (ρ : RewriterMeaning) (A : Asking) where
   -- a turn, said of the machine's fields
-  pub stepped_at : (before : Run) (M : PatternMatcher) (st : ℕ) (ls : List Level) (acc : List Pair) (mode : Mode) → stack M ≡ ls → held M.pairs ≡ acc → M.mode ≡ mode → before ≡ tick (left R A ls acc mode st) → Stacked R ρ A ls → ModeSound R ρ ls acc st mode → Stepped R ρ A before M st
+  pub stepped_at : (before : Run) (M : PatternMatcher) (st : ℕ) (ls : List Level) (acc : List Pair) (mode : Mode) → stack M ≡ ls → M.pairs ≡ acc → M.mode ≡ mode → before ≡ tick (left R A ls acc mode st) → Stacked R ρ A ls → ModeSound R ρ ls acc st mode → Stepped R ρ A before M st
   stepped_at before M st ls acc mode e f g step levels here = record {
     one_step = step ∙ (λ i. tick (left R A (sym e i) (sym f i) (sym g i) st));
     sound = record {
@@ -76,20 +75,20 @@ module _ (R : Asked) (ρ : RewriterMeaning) (A : Asking) where
 
   -- the same, from the machine's mode
   module _ (M : PatternMatcher) (b s st : ℕ) (mode : M.mode ≡ Down b s) (sound : MachineSound R ρ A M st) where
-    pub down_here : ModeSound R ρ (stack M) (held M.pairs) st (Down b s)
-    down_here = subst (ModeSound R ρ (stack M) (held M.pairs) st) mode sound.here
+    pub down_here : ModeSound R ρ (stack M) M.pairs st (Down b s)
+    down_here = subst (ModeSound R ρ (stack M) M.pairs st) mode sound.here
 
-    pub down_before : machine_left R A M st ≡ left R A (stack M) (held M.pairs) (Down b s) st
-    down_before = ap (λ m. left R A (stack M) (held M.pairs) m st) mode
+    pub down_before : machine_left R A M st ≡ left R A (stack M) M.pairs (Down b s) st
+    down_before = ap (λ m. left R A (stack M) M.pairs m st) mode
 
-    pub down_room : length (held M.pairs) < 64
-    down_room = room_down (stack M) (held M.pairs) b s st sound.levels down_here
+    pub down_room : length M.pairs < 64
+    down_room = room_down (stack M) M.pairs b s st sound.levels down_here
 
     module _ (ne : b ≡ s → ⊥) (is : part R s ≡ app s (all_trees (part_in R 63) (opened R.store s))) where
       pub opened_turn : (M' : PatternMatcher) (mark : ℕ) → mark ≡ st → Opens R.store M b s mark M' → Stepped R ρ A (machine_left R A M st) M' st
       opened_turn M' mark e done =
-          let l = opened_level b s st (length (held M.pairs)) in
-          stepped_at (machine_left R A M st) M' st (l ∷ stack M) (held M.pairs) (cond ((view R.store).fits b s) Hit Miss)
-          (ap reverse done.levels ∙ reverse-append (held M.levels) (opened_level b s mark (length (held M.pairs)) ∷ []) ∙ ap (λ n. opened_level b s n (length (held M.pairs)) ∷ stack M) e)
-          (ap held done.pairs) done.mode (down_before ∙ down_open (stack M) (held M.pairs) b s st ne is down_here)
-          (open_level (stack M) (held M.pairs) b s st ne is down_here, sound.levels) (open_mode (stack M) (held M.pairs) b s st ne is down_here ((view R.store).fits b s))
+          let l = opened_level b s st (length M.pairs) in
+          stepped_at (machine_left R A M st) M' st (l ∷ stack M) M.pairs (cond ((view R.store).fits b s) Hit Miss)
+          (ap reverse done.levels ∙ reverse-append M.levels (opened_level b s mark (length M.pairs) ∷ []) ∙ ap (λ n. opened_level b s n (length M.pairs) ∷ stack M) e)
+          done.pairs done.mode (down_before ∙ down_open (stack M) M.pairs b s st ne is down_here)
+          (open_level (stack M) M.pairs b s st ne is down_here, sound.levels) (open_mode (stack M) M.pairs b s st ne is down_here ((view R.store).fits b s))

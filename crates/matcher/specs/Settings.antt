@@ -1,6 +1,5 @@
 -- What a search does at a setting, for hosts and rewriters of any two types.
 use Rattle.std.specs.Prelude.{◌≡◌, ℕ, Bool, true, false, List, ◌∷◌, Option}
-use Rattle.store.specs.Held.{held}
 use Rattle.store.specs.Tables.{Tables, tables}
 use Rattle.request.specs.declared.kinds.Pair.{Pair}
 use Rattle.request.specs.Asked.{asked}
@@ -77,7 +76,7 @@ module _ {H R : Type 0} (meaning : H → Tables → HostMeaning) (means : R → 
 
   -- the same, where the top level has been taken off
   pub record StepsOff (l : Level) (mode : Mode) (M : PatternMatcher) (r : R) (M' : PatternMatcher) (r' : R) : Type 0 where
-    pub steps : Stepped (asked t.request) (meant_by r) (asking_at meaning t (meant_by r)) (left (asked t.request) (asking_at meaning t (meant_by r)) (l ∷ stack M) (held M.pairs) mode (state r)) M' (state r')
+    pub steps : Stepped (asked t.request) (meant_by r) (asking_at meaning t (meant_by r)) (left (asked t.request) (asking_at meaning t (meant_by r)) (l ∷ stack M) M.pairs mode (state r)) M' (state r')
     pub same : Stays r r'
 
   -- nothing is left to do, and the rewriter is as it was
@@ -97,5 +96,5 @@ module _ {H R : Type 0} (meaning : H → Tables → HostMeaning) (means : R → 
 
   -- run to its end, it gives the answer that it had to give
   pub record Ends (M : PatternMatcher) (r : R) (M' : PatternMatcher) (r' : R) : Type 0 where
-    pub ends : (left_at r M r).answer ≡ stopped_with M'.mode (held M'.pairs) (state r')
+    pub ends : (left_at r M r).answer ≡ stopped_with M'.mode M'.pairs (state r')
     pub same : Stays r r'

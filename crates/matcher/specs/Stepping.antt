@@ -1,7 +1,5 @@
 -- What one turn of the machine does.
-use Rattle.std.specs.Prelude.{◌≡◌, ℕ, ◌+◌, Bool, true, false, cond, List, [], ◌∷◌, ◌++◌, reverse, length, Some, None, Option, ◌≢◌}
-use Rattle.store.specs.declared.fixed.Fixed.{Fixed}
-use Rattle.store.specs.Held.{held}
+use Rattle.std.specs.Prelude.{◌≡◌, ℕ, ◌+◌, Bool, false, cond, List, [], ◌∷◌, ◌++◌, reverse, length, Some, None, Option, ◌≢◌}
 use Rattle.store.specs.Tables.{Tables, term_at, owner_of}
 use Rattle.request.specs.declared.kinds.Pair.{Pair}
 use Rattle.request.specs.Asked.{Asked}
@@ -20,7 +18,7 @@ use Rattle.matcher.specs.Trees.{fits_as, part, view}
 
 -- the levels, the top one first
 abbrev pub stack : PatternMatcher → List Level
-stack M = reverse (held M.levels)
+stack M = reverse M.levels
 
 -- a place that is matched whole, by a pair or not at all
 abbrev pub settled_pairs : List Pair → Option Pair → List Pair
@@ -33,7 +31,7 @@ settled_mode (Some p) = Hit
 
 pub record Settles (M : PatternMatcher) (by : Option Pair) (M' : PatternMatcher) : Type 0 where
   pub levels : M'.levels ≡ M.levels
-  pub pairs : held M'.pairs ≡ settled_pairs (held M.pairs) by
+  pub pairs : M'.pairs ≡ settled_pairs M.pairs by
   pub mode : M'.mode ≡ settled_mode by
 
 -- a level just opened
@@ -41,7 +39,7 @@ abbrev pub opened_level : ℕ → ℕ → ℕ → ℕ → Level
 opened_level b s mark start = record { blame = b; subpat = s; term = b; child = 0; before = mark; phase = None; start = start }
 
 pub record Opens (S : Tables) (M : PatternMatcher) (b s mark : ℕ) (M' : PatternMatcher) : Type 0 where
-  pub levels : held M'.levels ≡ held M.levels ++ opened_level b s mark (length (held M.pairs)) ∷ []
+  pub levels : M'.levels ≡ M.levels ++ opened_level b s mark (length M.pairs) ∷ []
   pub pairs : M'.pairs ≡ M.pairs
   pub mode : M'.mode ≡ cond (fits_as (term_at S b) (term_at S s)) Hit Miss
 
@@ -61,7 +59,7 @@ next_mode (Some s) None = Miss
 next_mode (Some s) (Some b) = Down b s
 
 pub record Advances (M : PatternMatcher) (l : Level) (s b : Option ℕ) (M' : PatternMatcher) : Type 0 where
-  pub levels : held M'.levels ≡ held M.levels ++ kept_level l s b
+  pub levels : M'.levels ≡ M.levels ++ kept_level l s b
   pub pairs : M'.pairs ≡ M.pairs
   pub mode : M'.mode ≡ next_mode s b
 
@@ -71,7 +69,7 @@ asked_level l None after = []
 asked_level l (Some o) after = record { blame = l.blame; subpat = l.subpat; term = l.term; child = l.child; before = l.before; phase = Some (record { after = after; offered = record { from = o.from; count = length o.tos }; tried = 0 }); start = l.start } ∷ []
 
 pub record Asks (M : PatternMatcher) (l : Level) (a : Option Offers) (after : ℕ) (M' : PatternMatcher) : Type 0 where
-  pub levels : held M'.levels ≡ held M.levels ++ asked_level l a after
+  pub levels : M'.levels ≡ M.levels ++ asked_level l a after
   pub pairs : M'.pairs ≡ M.pairs
   pub mode : M'.mode ≡ Miss
 
@@ -97,16 +95,16 @@ taken_mode None = Miss
 taken_mode (Some t) = Hit
 
 pub record Takes (M : PatternMatcher) (l : Level) (n : ℕ) (o : Option Taken) (M' : PatternMatcher) : Type 0 where
-  pub levels : held M'.levels ≡ held M.levels ++ taken_level l o ∷ []
-  pub pairs : held M'.pairs ≡ taken_pairs (held M.pairs) n o
+  pub levels : M'.levels ≡ M.levels ++ taken_level l o ∷ []
+  pub pairs : M'.pairs ≡ taken_pairs M.pairs n o
   pub mode : M'.mode ≡ taken_mode o
 
 pub record MachineSound (R : Asked) (ρ : RewriterMeaning) (A : Asking) (M : PatternMatcher) (st : ℕ) : Type 0 where
   pub levels : Stacked R ρ A (stack M)
-  pub here : ModeSound R ρ (stack M) (held M.pairs) st M.mode
+  pub here : ModeSound R ρ (stack M) M.pairs st M.mode
 
 abbrev pub machine_left : Asked → Asking → PatternMatcher → ℕ → Run
-machine_left R A M st = left R A (stack M) (held M.pairs) M.mode st
+machine_left R A M st = left R A (stack M) M.pairs M.mode st
 
 pub record Stepped (R : Asked) (ρ : RewriterMeaning) (A : Asking) (before : Run) (M : PatternMatcher) (st : ℕ) : Type 0 where
   pub one_step : before ≡ tick (machine_left R A M st)
@@ -121,8 +119,8 @@ pub record Stopped (M : PatternMatcher) (st : ℕ) (M' : PatternMatcher) (st' : 
 
 -- a matcher about to enter a place
 pub record Starts (b s : ℕ) (M : PatternMatcher) : Type 0 where
-  pub levels : held M.levels ≡ []
-  pub pairs : held M.pairs ≡ []
+  pub levels : M.levels ≡ []
+  pub pairs : M.pairs ≡ []
   pub mode : M.mode ≡ Down b s
 
 -- the answer of a machine that has stopped
@@ -136,10 +134,6 @@ abbrev pub success : Mode → Bool → Bool
 success (Down b s) q = false
 success Hit q = q
 success Miss q = false
-
-abbrev pub pairs_of : Option (Fixed Pair 64) → Option (List Pair)
-pairs_of None = None
-pairs_of (Some p) = Some (held p)
 
 -- the state that a search leaves: at a miss the first
 abbrev pub ends_in : RewriterMeaning → Option found.Hit → ℕ

@@ -2,7 +2,7 @@
 ghost use Rattle.std.specs.Prelude.{◌≡◌};
 ghost use Rattle.matcher.specs.Laws.{FindsFirst, MoreFinds, CustomFinds, ForceFinds, FoundLeads};
 ghost use Rattle.matcher.specs.Settings.{Sound, Ends, SearchedAt};
-ghost use Rattle.matcher.specs.Stepping.{Starts, pairs_of, success};
+ghost use Rattle.matcher.specs.Stepping.{Starts, success};
 ghost use Rattle.store.specs.Tables.{tables};
 
 use crate::level::{Level, Mode};
@@ -58,7 +58,7 @@ impl PatternMatcher {
         blame: usize,
         subpat: usize,
     ) -> Option<Pairs>
-        ensures searched { SearchedAt H.Host.meaning setting.now (R.EqRewriter.rewriter rewriter.old) blame subpat (pairs_of result) (R.EqRewriter.state rewriter.new) }
+        ensures searched { SearchedAt H.Host.meaning setting.now (R.EqRewriter.rewriter rewriter.old) blame subpat result (R.EqRewriter.state rewriter.new) }
         ensures same { R.EqRewriter.rewriter rewriter.new ≡ R.EqRewriter.rewriter rewriter.old }
     {
         rewriter.reset();
@@ -79,7 +79,7 @@ impl PatternMatcher {
         blame: usize,
         subpat: usize,
     ) -> Option<Pairs>
-        ensures searched { SearchedAt H.Host.meaning setting.now (R.EqRewriter.rewriter rewriter.old) blame subpat (pairs_of result) (R.EqRewriter.state rewriter.new) }
+        ensures searched { SearchedAt H.Host.meaning setting.now (R.EqRewriter.rewriter rewriter.old) blame subpat result (R.EqRewriter.state rewriter.new) }
         ensures same { R.EqRewriter.rewriter rewriter.new ≡ R.EqRewriter.rewriter rewriter.old }
         ensures finds_first { FindsFirst }
         ensures more_finds { MoreFinds }

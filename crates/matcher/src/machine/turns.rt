@@ -4,7 +4,6 @@ ghost use Rattle.matcher.specs.declared.level.Mode.TheVariants.{Down, Miss};
 ghost use Rattle.matcher.specs.Settings.{Sound, StackedOff, AsksAt, Steps, StepsOff, Turned};
 ghost use Rattle.matcher.specs.Stepping.{stack, Settles, Opens, Advances, Takes};
 ghost use Rattle.matcher.specs.Trees.{below_as};
-ghost use Rattle.store.specs.Held.{held};
 ghost use Rattle.std.specs.List.{slice_get};
 ghost use Rattle.store.specs.Tables.{tables, term_at};
 
@@ -21,7 +20,7 @@ use store::{Store, lookup};
 impl PatternMatcher {
     // A term that was matched whole by a pair, or not.
     fn settle(&mut self, by: Option<Pair>)
-        requires { length (held self.old.pairs) < 64 }
+        requires { length self.old.pairs < 64 }
         ensures { Settles self.old by self.new }
     {
         self.mode = Mode::Miss;
@@ -33,7 +32,7 @@ impl PatternMatcher {
 
     // Opens a level for an application whose children are places: first the term as it is.
     fn open(&mut self, store: Store, blame: usize, subpat: usize, mark: usize)
-        requires { length (held self.old.levels) < 64 }
+        requires { length self.old.levels < 64 }
         ensures { Opens (tables store.entry) self.old blame subpat mark self.new }
     {
         let _ = self.levels.push(Level {
@@ -84,7 +83,7 @@ impl PatternMatcher {
 
     // Goes on after a child that was reached: with the next one, or, behind the last, with what comes after the level.
     fn on_hit(&mut self, store: Store, level: Level)
-        requires { length (held self.old.levels) < 64 }
+        requires { length self.old.levels < 64 }
         ensures { Advances self.old level (slice_get (below_as (tables store.entry) (term_at (tables store.entry) level.subpat)) level.child) (slice_get (below_as (tables store.entry) (term_at (tables store.entry) level.term)) level.child) self.new }
     {
         let n = level.child;
@@ -111,7 +110,7 @@ impl PatternMatcher {
         rewriter: &mut R,
         level: Level,
     )
-        requires { length (held self.old.levels) < 64 }
+        requires { length self.old.levels < 64 }
         ensures { AsksAt H.Host.meaning R.EqRewriter.rewriter R.EqRewriter.state setting.now self.old level rewriter.old self.new rewriter.new }
     {
         rewriter.back(level.before);
@@ -129,8 +128,8 @@ impl PatternMatcher {
 
     // Goes on with an offer that fits, else leaves the level to the next.
     fn take(&mut self, level: Level, from: usize, offer: Option<Taken>)
-        requires levels { length (held self.old.levels) < 64 }
-        requires pairs { length (held self.old.pairs) < 64 }
+        requires levels { length self.old.levels < 64 }
+        requires pairs { length self.old.pairs < 64 }
         ensures { Takes self.old level from offer self.new }
     {
         let Some(Taken { node, term }) = offer else {
