@@ -1,56 +1,36 @@
--- Bytes cut at a mark, and at white space. Assumes nothing.
-use Rattle.std.proofs.Common.{◌≡◌, ℕ, ◌+◌, ◌-◌, ◌<◌, ◌≤◌, Bool, true, false, not, List, ◌∷◌, ◌++◌, length, get_or, take, drop, sym, refl, ap, ◌∙◌, subst, ⊎_elim, add-zero, add-one, arith, length-drop, take-append-drop, length-take-le, get_or-drop, take_all, drop-cons}
-use mathlib.Core.Bool.{beq}
-use native.Mathlib.Nat.{sub-zero}
-use Rattle.std.proofs.lemmas.List.{take_rest}
-use Rattle.std.proofs.lemmas.Bool.{true≢false}
+-- The first word of bytes, after the white space at their front. Assumes nothing.
+use Rattle.std.proofs.Common.{◌≡◌, ℕ, ◌+◌, ◌<◌, ◌≤◌, true, false, List, [], ◌++◌, length, get_or, take, drop, sym, ap, ◌∙◌, arith, ⊎_elim, add-zero, length-drop, length-take-le, take-append-drop, get_or-drop}
+use Rattle.std.proofs.lemmas.List.{get_or-take, get_or_default, nil_from_length}
 use Rattle.std.proofs.str.Laws.{order}
 use Rattle.std.specs.Char.{is_ascii_whitespace}
-use Rattle.explain.specs.Cuts.{Without, White, FirstWord}
+use Rattle.std.specs.Str.{IsTrimAsciiStart}
+use Rattle.explain.specs.Cuts.{White, FirstWord}
 
-abbrev pub front : List ℕ → ℕ → List ℕ
-front bs n = take (n - 0) bs
+module _ (bs start word after : List ℕ) (trimmed : IsTrimAsciiStart bs start) (parts : start ≡ word ++ after) (ends : 0 < length after → is_ascii_whitespace (get_or after 0 0) ≡ false → ⊥) where
+  before : (k d : ℕ) → k < trimmed.0 → is_ascii_whitespace (get_or bs k d) ≡ true
+  before k d h = ap is_ascii_whitespace (get_or_default bs k d 0 (omega (arith, trimmed.2))) ∙ trimmed.3 k h
 
-abbrev pub back : List ℕ → ℕ → List ℕ
-back bs n = take (length bs - (n + 1)) (drop (n + 1) bs)
-
-pub cut_at : (mark : ℕ) (bs : List ℕ) (n : ℕ) → n < length bs → Without mark (take n bs) → get_or bs n 0 ≡ mark → Without mark (front bs n) × (bs ≡ front bs n ++ (mark ∷ back bs n)) × (length (back bs n) < length bs)
-cut_at mark bs n h free is =
-    let rest = take_rest bs (n + 1) in
-    let none = sub-zero n in
-    let after : drop n bs ≡ mark ∷ drop (n + 1) bs = drop-cons bs n 0 h ∙ (λ i. is i ∷ drop (sym (add-one n) i) bs) in (
-      subst (λ k. Without mark (take k bs)) (sym none) free,
-      sym (take-append-drop n bs) ∙ (λ i. take (sym none i) bs ++ after i) ∙ ap (λ l. front bs n ++ (mark ∷ l)) (sym rest),
-      omega (arith, ap length rest, length-drop (n + 1) bs),
-    )
-
-module _ (bs start : List ℕ) (g : ℕ) (from : start ≡ drop g bs) (blank : White true (take g bs)) where
-  pub first_word : (n : ℕ) (word after : List ℕ) → word ≡ take n start → after ≡ drop n start → 0 < n → n ≤ length start → White false (take n start) → (n < length start → is_ascii_whitespace (get_or start n 0) ≡ false → ⊥) → FirstWord bs word after
-  first_word n word after front-is back_is more within solid stops =
-      let here : get_or after 0 0 ≡ get_or start n 0 = ap (λ l. get_or l 0 0) back_is ∙ get_or-drop n start 0 0 ∙ ap (λ i. get_or start i 0) (add-zero n) in
-      let parts : start ≡ word ++ after = sym (take-append-drop n start) ∙ (λ i. sym front-is i ++ sym back_is i) in
-      record {
-        gap = take g bs;
-        cut = sym (take-append-drop g bs) ∙ ap (λ l. take g bs ++ l) (sym from ∙ parts);
-        blank = blank;
-        some = omega (arith, ap length front-is, length-take-le n start within);
-        solid = subst (White false) (sym front-is) solid;
-        ends = λ left white. stops (omega (arith, ap length back_is, length-drop n start)) (sym (ap is_ascii_whitespace here) ∙ white);
-      }
+  pub first_word : White false word → 0 < length word → FirstWord bs word after
+  first_word solid some = record {
+    gap = take trimmed.0 bs;
+    cut = sym (take-append-drop trimmed.0 bs) ∙ ap (λ l. take trimmed.0 bs ++ l) (sym trimmed.1 ∙ parts);
+    blank = λ k d h.
+        let within : k < trimmed.0 = omega (arith, h, length-take-le trimmed.0 bs (omega (arith, trimmed.2))) in
+        ap is_ascii_whitespace (get_or-take trimmed.0 bs k d within) ∙ before k d within;
+    some = some;
+    solid = solid;
+    ends = ends;
+  }
 
   -- where no word begins after the white space, there is nothing after it
-  pub no_word : (g < length bs → is_ascii_whitespace (get_or bs g 0) ≡ true → ⊥) → (0 < length start → is_ascii_whitespace (get_or start 0 0) ≡ false → ⊥) → White true bs
-  no_word dark bright =
-      ⊎_elim (λ more. absurd (by-white (is_ascii_whitespace (get_or bs g 0)) refl more)) (λ done. subst (White true) (take_all g bs done) blank) (order g (length bs))
+  pub no_word : length word ≡ 0 → White true bs
+  no_word none k d h = ⊎_elim (before k d) (λ past. absurd (ends (left past) (bright past))) (order k trimmed.0)
     where
-      by-white : (b : Bool) → is_ascii_whitespace (get_or bs g 0) ≡ b → g < length bs → ⊥
-      by-white true e more = dark more e
-      by-white false e more =
-          bright (omega (arith, ap length from, length-drop g bs)) (ap is_ascii_whitespace (ap (λ l. get_or l 0 0) from ∙ get_or-drop g bs 0 0 ∙ ap (λ i. get_or bs i 0) (add-zero g)) ∙ e)
+      all : start ≡ after
+      all = parts ∙ ap (λ l. l ++ after) (nil_from_length word none)
 
--- what a passed test for a difference says
-pub no_difference : (a b : Bool) → not (beq a b) ≡ false → a ≡ b
-no_difference true true e = refl
-no_difference true false e = absurd (true≢false e)
-no_difference false true e = absurd (true≢false e)
-no_difference false false e = refl
+      left : trimmed.0 ≤ k → 0 < length after
+      left past = omega (arith, h, past, trimmed.2, ap length all)
+
+      bright : trimmed.0 ≤ k → is_ascii_whitespace (get_or after 0 0) ≡ false
+      bright past = ap is_ascii_whitespace (ap (λ l. get_or l 0 0) (sym all ∙ trimmed.1) ∙ get_or-drop trimmed.0 bs 0 0 ∙ ap (λ i. get_or bs i 0) (add-zero trimmed.0)) ∙ trimmed.4 (omega (arith, h, past))

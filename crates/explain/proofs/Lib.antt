@@ -1,5 +1,2 @@
 pub mod Cutting
-pub mod Giving
 pub mod Offered
-pub mod Sameness
-pub mod Values

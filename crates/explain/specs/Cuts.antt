@@ -1,15 +1,15 @@
 -- Where bytes are cut: an input into lines, and a line into words. Assumes nothing.
 use Rattle.std.specs.Prelude.{◌≡◌, ℕ, ◌<◌, Bool, true, false, ◌⊎◌, List, [], ◌∷◌, ◌++◌, length, Some, None, Option, ◌≢◌, slice_index}
 use Rattle.std.specs.Char.{is_ascii_whitespace}
-use Rattle.std.specs.List.{AllByRecursion}
+use Rattle.std.specs.List.{All}
 
 -- no byte is the mark
 abbrev pub Without : ℕ → List ℕ → Type 0
-Without mark bs = AllByRecursion (λ b. b ≢ mark) bs
+Without mark bs = All (λ b. b ≢ mark) bs
 
 -- every byte is white space, or none is
 abbrev pub White : Bool → List ℕ → Type 0
-White w bs = AllByRecursion (λ b. is_ascii_whitespace b ≡ w) bs
+White w bs = All (λ b. is_ascii_whitespace b ≡ w) bs
 
 -- the text of a line goes to the first '#', or to the end
 abbrev pub Uncommented : List ℕ → List ℕ → Type 0

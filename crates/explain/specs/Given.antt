@@ -1,5 +1,7 @@
 -- The tables that a host's lines give. Assumes nothing.
-use Rattle.std.specs.Prelude.{ℕ, ◌-◌, ◌^◌, List, [], ◌∷◌, replicate, slice_set}
+use Rattle.std.specs.Prelude.{◌≡◌, ℕ, ◌-◌, ◌^◌, List, fold, replicate, slice_set}
+use denote.Param.Members.{Shared}
+use denote.Ref.{Bor}
 
 -- a table in which no line gives a number
 abbrev pub none_given : ℕ → List ℕ
@@ -7,5 +9,8 @@ none_given size = replicate size (2 ^ 64 - 1)
 
 -- each line in order gives its number at its place, so the last for a place counts, and one for a place past the end gives nothing
 abbrev pub given : {L : Type 0} → (L → ℕ) → (L → ℕ) → List ℕ → List L → List ℕ
-given place number table [] = table
-given place number table (l ∷ ls) = given place number (slice_set table (place l) (number l)) ls
+given place number table lines = fold (λ filled line. slice_set filled (place line) (number line)) table lines
+
+-- each call at a line gives what the function says of the line
+abbrev pub Reads : {F L : Type 0} → Shared F (Bor L × Unit {0}) ℕ → F → (L → ℕ) → Type 0
+Reads g f read = (l : Bor _) (n : ℕ) → g.post f (l, tt) n → n ≡ read l.now

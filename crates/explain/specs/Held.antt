@@ -5,7 +5,7 @@ use Rattle.store.specs.declared.term.Term.{Term}
 use Rattle.store.specs.declared.term.TermKind.{TermKind}
 use Rattle.store.specs.declared.term.HasVar.{HasVar}
 use Rattle.store.specs.declared.term.HasVar.TheVariants.{No}
-use Rattle.store.specs.Tables.{Tables}
+use Rattle.store.specs.Tables.{Tables, recorded_or}
 use Rattle.store.specs.Terms.{follows}
 use Rattle.explain.specs.declared.tables.StoreText.{StoreText}
 
@@ -14,14 +14,6 @@ held s = record { terms = vec_items s.terms; nodes = vec_items s.nodes; cells = 
 
 abbrev pub empty : Tables
 empty = record { terms = []; nodes = []; cells = []; symbols = []; names = [] }
-
--- a child that is no earlier term counts as one without a variable
-abbrev pub counted_in : Option Term → HasVar
-counted_in None = No
-counted_in (Some x) = x.has_var
-
-abbrev pub counted : List Term → ℕ → HasVar
-counted ts c = counted_in (slice_get ts c)
 
 abbrev pub with_symbol : Tables → List ℕ → Tables
 with_symbol S name = record {
@@ -32,10 +24,11 @@ with_symbol S name = record {
   names = S.names ++ name;
 }
 
+-- a child that is no earlier term counts as one without a variable
 abbrev pub new_term : Tables → TermKind → List ℕ → Term
 new_term S kind children = record {
   kind = kind;
-  has_var = follows kind (map (counted S.terms) children);
+  has_var = follows kind (map (recorded_or No S) children);
   child_ids = record { offset = length S.cells; len = length children };
 }
 

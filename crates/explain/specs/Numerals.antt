@@ -1,6 +1,6 @@
 -- A word of decimal digits, and the number that it writes. Assumes nothing.
 use Rattle.std.specs.Prelude.{ℕ, ◌+◌, ◌-◌, ◌*◌, ◌^◌, ◌<◌, ◌≤◌, List, length, fold}
-use Rattle.std.specs.List.{AllByRecursion}
+use Rattle.std.specs.List.{All}
 
 -- the bytes '0' to '9'
 abbrev pub Digit : ℕ → Type 0
@@ -16,4 +16,4 @@ value w = fold then_digit 0 w
 
 -- a word that a number is read from: digits, at least one, with a value that 64 bits hold
 abbrev pub Numeral : List ℕ → Type 0
-Numeral w = (0 < length w) × AllByRecursion Digit w × (value w < 2 ^ 64)
+Numeral w = (0 < length w) × All Digit w × (value w < 2 ^ 64)

@@ -1,75 +1,45 @@
 // Why a line cannot be read.
-use std::alloc::{AllocError, AllocFailed};
-use std::fmt;
+use std::alloc::AllocError;
+use thiserror::Error;
 
 // What was expected where a line cannot be read.
-#[derive(Clone, Copy)]
+#[derive(Clone, Copy, Debug, Error)]
 pub enum Expected {
+    #[error("'request'")]
     Request,
+    #[error("a known word")]
     KnownWord,
+    #[error("a number up to 18446744073709551615")]
     Number,
+    #[error("a name")]
     Name,
+    #[error("a pair FROM:TO")]
     Pair,
+    #[error("'no', 'yes' or 'unknown'")]
     HasVar,
+    #[error("'basic', 'complex', 'custom' or 'force'")]
     Kind,
+    #[error("the number of a term given above")]
     GivenTerm,
+    #[error("the end of the line")]
     LineEnd,
+    #[error("no second 'pattern' line")]
     OnePattern,
+    #[error("no second 'terms' or 'nodes' line")]
     OneBindings,
+    #[error("no second 'version' line")]
     OneVersion,
+    #[error("'class', as above")]
     Class,
+    #[error("'link', as above")]
     Link,
 }
 
-impl Expected {
-    fn phrase(self) -> &'static str {
-        match self {
-            Expected::Request => "'request'",
-            Expected::KnownWord => "a known word",
-            Expected::Number => "a number up to 18446744073709551615",
-            Expected::Name => "a name",
-            Expected::Pair => "a pair FROM:TO",
-            Expected::HasVar => "'no', 'yes' or 'unknown'",
-            Expected::Kind => "'basic', 'complex', 'custom' or 'force'",
-            Expected::GivenTerm => "the number of a term given above",
-            Expected::LineEnd => "the end of the line",
-            Expected::OnePattern => "no second 'pattern' line",
-            Expected::OneBindings => "no second 'terms' or 'nodes' line",
-            Expected::OneVersion => "no second 'version' line",
-            Expected::Class => "'class', as above",
-            Expected::Link => "'link', as above",
-        }
-    }
-}
-
-impl fmt::Display for Expected {
-    fn fmt<W: fmt::Write>(&self, f: &mut fmt::Formatter<W>) -> fmt::Result {
-        let phrase = self.phrase();
-        write!(f, "expected {phrase}")
-    }
-}
-
 // Only the first of these is the line's fault.
-#[derive(Drop)]
+#[derive(Debug, Drop, Error)]
 pub enum LineError {
-    Unread(Expected),
-    Memory(AllocError),
-}
-
-impl From<Expected> for LineError {
-    fn from(e: Expected) -> LineError {
-        LineError::Unread(e)
-    }
-}
-
-impl From<AllocError> for LineError {
-    fn from(e: AllocError) -> LineError {
-        LineError::Memory(e)
-    }
-}
-
-impl<T: Drop> From<AllocFailed<T>> for LineError {
-    fn from(_e: AllocFailed<T>) -> LineError {
-        LineError::Memory(AllocError)
-    }
+    #[error("expected {0}")]
+    Unread(#[from] Expected),
+    #[error(transparent)]
+    Memory(#[from(alloc)] AllocError),
 }

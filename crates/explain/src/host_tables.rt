@@ -1,9 +1,10 @@
 // The tables of a host, with an item for each term or node, as its lines give them.
-ghost use Rattle.std.specs.Prelude.{◌≡◌, IfOk, slice_set};
-ghost use Rattle.explain.specs.Given.{given, none_given};
+ghost use Rattle.std.specs.Prelude.{◌≡◌, ℕ, IfOk, slice_set};
+ghost use Rattle.std.specs.Fn.{FnReturnsAt};
+ghost use Rattle.explain.specs.Given.{Reads, given, none_given};
 
 use crate::host_text::{Class, ClassKind, Live};
-use host::{ClassLinks, ClassNumbers, TableHost};
+use host::{Partition, TableHost};
 use std::alloc::{AllocError, Global};
 
 // What stands where no line gives a number. No node has it.
@@ -24,20 +25,38 @@ pub struct ClassTables {
 fn put(table: &mut Vec<usize>, at: usize, number: usize)
     ensures { table.new.items ≡ slice_set table.old.items at number }
 {
-    if at >= table.len() {
-        return;
+    if let Some(item) = table.get_mut(at) {
+        *item = number;
     }
-    table[at] = number;
+}
+
+// The table of this size to which each line gives its number at its place.
+fn table<L, P: Fn(&L) -> usize, N: Fn(&L) -> usize>(
+    lines: &[L],
+    place: P,
+    number: N,
+    size: usize,
+    heap: Global,
+) -> Result<Vec<usize>, AllocError>
+    ghost reads: { (L → ℕ) × (L → ℕ) }
+    requires place_callable { P.IsAlwaysCallable place }
+    requires number_callable { N.IsAlwaysCallable number }
+    requires place { Reads P.Fn place reads.0 }
+    requires number { Reads N.Fn number reads.1 }
+    ensures { IfOk result (λ t. t.items ≡ given reads.0 reads.1 (none_given size) lines.now) }
+{
+    let mut table = vec![in heap; NO_NODE; size]?;
+    for line in lines {
+        put(&mut table, place(line), number(line));
+    }
+    Ok(table)
 }
 
 impl LiveTable {
     pub fn new(lines: &[Live], terms: usize, heap: Global) -> Result<LiveTable, AllocError>
         ensures { IfOk result (λ t. t.0.items ≡ given (λ l. l.term) (λ l. l.node) (none_given terms) lines.now) }
     {
-        let mut live = vec![in heap; NO_NODE; terms]?;
-        for line in lines {
-            put(&mut live, line.term, line.node);
-        }
+        let live = table(lines, |l| l.term, |l| l.node, terms, heap)?;
         Ok(LiveTable(live))
     }
 }
@@ -47,13 +66,10 @@ impl ClassTables {
         ensures loose { IfOk result (λ t. t.loose.items ≡ given (λ l. l.node) (λ l. l.loose) (none_given nodes) lines.now) }
         ensures strict { IfOk result (λ t. t.strict.items ≡ given (λ l. l.node) (λ l. l.strict) (none_given nodes) lines.now) }
     {
-        let mut loose = vec![in heap; NO_NODE; nodes]?;
-        let mut strict = vec![in heap; NO_NODE; nodes]?;
-        for line in lines {
-            put(&mut loose, line.node, line.loose);
-            put(&mut strict, line.node, line.strict);
-        }
-        Ok(ClassTables { loose, strict })
+        Ok(ClassTables {
+            loose: table(lines, |l| l.node, |l| l.loose, nodes, heap)?,
+            strict: table(lines, |l| l.node, |l| l.strict, nodes, heap)?,
+        })
     }
 }
 
@@ -65,27 +81,17 @@ pub struct HostTables {
 }
 
 impl HostTables {
-    pub fn by_numbers(&self) -> TableHost<'_, ClassNumbers<'_>>
+    // The host whose classes are read from their tables in this way.
+    pub fn host<'a, P: Partition, F: Fn(&'a [usize]) -> P>(&'a self, classes: F) -> TableHost<'a, P>
+        requires { F.IsAlwaysCallable classes }
         ensures live { result.live.now ≡ self.now.live.0.items }
-        ensures loose { result.loose.0.now ≡ self.now.classes.loose.items }
-        ensures strict { result.strict.0.now ≡ self.now.classes.strict.items }
+        ensures loose { FnReturnsAt F.Fn classes self.now.classes.loose.items result.loose }
+        ensures strict { FnReturnsAt F.Fn classes self.now.classes.strict.items result.strict }
     {
         TableHost::new(
             self.live.0.as_slice(),
-            ClassNumbers(self.classes.loose.as_slice()),
-            ClassNumbers(self.classes.strict.as_slice()),
-        )
-    }
-
-    pub fn by_links(&self) -> TableHost<'_, ClassLinks<'_>>
-        ensures live { result.live.now ≡ self.now.live.0.items }
-        ensures loose { result.loose.0.now ≡ self.now.classes.loose.items }
-        ensures strict { result.strict.0.now ≡ self.now.classes.strict.items }
-    {
-        TableHost::new(
-            self.live.0.as_slice(),
-            ClassLinks(self.classes.loose.as_slice()),
-            ClassLinks(self.classes.strict.as_slice()),
+            classes(self.classes.loose.as_slice()),
+            classes(self.classes.strict.as_slice()),
         )
     }
 }

@@ -6,7 +6,9 @@ ghost use Rattle.std.specs.Option.{unwrap_or};
 
 use crate::expected::{Expected, LineError};
 use crate::host_tables::{ClassTables, HostTables, LiveTable};
+use crate::once::set_once;
 use std::alloc::{AllocError, Global};
+use version::Version;
 
 #[derive(Clone, Copy)]
 pub struct Live {
@@ -26,13 +28,6 @@ pub struct Class {
     pub node: usize,
     pub loose: usize,
     pub strict: usize,
-}
-
-#[derive(Clone, Copy)]
-pub struct Version {
-    pub major: usize,
-    pub minor: usize,
-    pub patch: usize,
 }
 
 #[derive(Drop)]
@@ -100,10 +95,6 @@ impl HostText {
     pub fn set_version(&mut self, version: Version) -> Result<(), Expected>
         ensures { Once result self.old.version self.new.version version }
     {
-        if self.version.is_some() {
-            return Err(Expected::OneVersion);
-        }
-        self.version = Some(version);
-        Ok(())
+        set_once(&mut self.version, version, Expected::OneVersion)
     }
 }

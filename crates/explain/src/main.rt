@@ -7,6 +7,7 @@ mod host_tables;
 mod host_text;
 mod number;
 mod offers;
+mod once;
 mod parse;
 mod reader;
 mod show;

@@ -10,10 +10,7 @@ fn then_digit(n: usize, b: u8) -> Option<usize>
     if !b.is_ascii_digit() {
         return None;
     }
-    let Some(tens) = n.checked_mul(10) else {
-        return None;
-    };
-    tens.checked_add((b - b'0') as usize)
+    n.checked_mul(10)?.checked_add((b - b'0') as usize)
 }
 
 // The value of a word of digits; none where it is no number, or one that 64 bits do not hold.
@@ -23,12 +20,5 @@ pub fn parse_number(word: &[u8]) -> Option<usize>
     if word.is_empty() {
         return None;
     }
-    let mut n = 0;
-    for b in word {
-        let Some(next) = then_digit(n, *b) else {
-            return None;
-        };
-        n = next;
-    }
-    Some(n)
+    word.iter().try_fold(0, |n, b| then_digit(n, *b))
 }

@@ -1,15 +1,16 @@
 // What the rewriters offer at a query, and what is printed of it.
-ghost use Rattle.std.specs.Prelude.{◌≡◌, IfOk};
-ghost use Rattle.explain.specs.Offering.{listed, first_offers, of_kind};
+ghost use Rattle.std.specs.Prelude.{◌≡◌, [], IfOk};
+ghost use Rattle.explain.specs.Offering.{listed, first_offers};
+ghost use Rattle.kind.specs.Kinds.{of_kind};
 ghost use Rattle.std.specs.Option.{option_map};
 ghost use Rattle.store.specs.Tables.{tables};
 
-use crate::show::Refused;
 use crate::show_host::Numbers;
-use crate::text::{Kind, Query};
+use crate::text::Query;
 use host::Host;
+use kind::AnyEq;
 use request::{Pair, Request};
-use rewrite::{BasicEq, ComplexEq, CustomEq, EqRewriter, ForceEq};
+use rewrite::EqRewriter;
 use std::alloc::{AllocError, Global};
 use std::fmt;
 use store::{Culprit, Fault, Refusal, Store};
@@ -37,8 +38,8 @@ pub fn show_offers<H: Host>(
 ) -> anyhow::Result<()> {
     let Some(pairs) = request.entry_pairs(query.entry) else {
         let culprit = Culprit::Entry(query.entry);
-        let refused = Refused(Fault::finder(Refusal::EntryNotWaiting, culprit));
-        println!(rt; "{query}: {refused}")?;
+        let fault = Fault::finder(Refusal::EntryNotWaiting, culprit);
+        println!(rt; "{query}: {fault}")?;
         return Ok(());
     };
     match offers_of(rt.alloc(), request.store, host, pairs, query)? {
@@ -56,15 +57,9 @@ fn offers_of<H: Host>(
     pairs: &[Pair],
     query: Query,
 ) -> Result<Option<Offers>, AllocError>
-    ensures { IfOk result (λ o. option_map listed o ≡ first_offers (of_kind query.kind pairs.now (tables store.entry)) (H.Host.meaning host.now (tables store.entry)) query) }
+    ensures { IfOk result (λ o. option_map listed o ≡ first_offers (of_kind query.kind pairs.now [] (tables store.entry)) (H.Host.meaning host.now (tables store.entry)) query) }
 {
-    let complex = ComplexEq::new(pairs, &[]);
-    match query.kind {
-        Kind::Basic => ask(heap, store, host, BasicEq::new(pairs), query),
-        Kind::Complex => ask(heap, store, host, complex, query),
-        Kind::Custom => ask(heap, store, host, CustomEq::new(complex), query),
-        Kind::Force => ask(heap, store, host, ForceEq::new(complex), query),
-    }
+    ask(heap, store, host, AnyEq::new(query.kind, pairs, &[]), query)
 }
 
 // What a rewriter offers from its first state, with no node set aside.
@@ -87,20 +82,11 @@ fn ask<H: Host, R: EqRewriter + Drop>(
     let Some(offered) = rewriter.possible_rewrite_count(store, host, &[], term, pattern_term) else {
         return Ok(None);
     };
-    let mut tos = Vec::new(heap);
-    for idx in 0..offered.count {
-        if let Some(to) = rewriter.possible_rewrite(
-            store,
-            host,
-            &[],
-            term,
-            pattern_term,
-            mark,
-            idx,
-        ) {
-            tos.push(to)?;
-        }
-    }
+    let tos = (0..offered.count)
+        .filter_map(|idx| {
+            rewriter.possible_rewrite(store, host, &[], term, pattern_term, mark, idx)
+        })
+        .collect(heap)?;
     Ok(Some(Offers {
         from: offered.from,
         tos,

@@ -1,12 +1,14 @@
 // A line of a request as a typed item, and what the item adds to the request.
 use crate::expected::{Expected, LineError};
-use crate::host_text::{Class, ClassKind, Live, Version};
+use crate::host_text::{Class, ClassKind, Live};
 use crate::number::parse_number;
-use crate::text::{Action, Bindings, Kind, Query, RequestText};
+use crate::text::{Action, Bindings, Query, RequestText};
 use crate::words::{Words, split_once};
+use kind::Kind;
 use request::{ENodeIdx, Pair, TermIdx};
 use std::alloc::Global;
 use store::{HasVar, TermKind};
+use version::Version;
 
 // What one word is read as. A missing word reads as an empty one, which nothing is read from.
 trait FromWord: Drop {
@@ -23,24 +25,23 @@ impl FromWord for usize {
 
 impl FromWord for TermIdx {
     fn from_word(word: &[u8]) -> Result<TermIdx, Expected> {
-        let term = parse_number(word).ok_or(Expected::Number)?;
-        Ok(TermIdx(term))
+        usize::from_word(word).map(TermIdx)
     }
 }
 
 impl FromWord for ENodeIdx {
     fn from_word(word: &[u8]) -> Result<ENodeIdx, Expected> {
-        let node = parse_number(word).ok_or(Expected::Number)?;
-        Ok(ENodeIdx(node))
+        usize::from_word(word).map(ENodeIdx)
     }
 }
 
 impl FromWord for Pair {
     fn from_word(word: &[u8]) -> Result<Pair, Expected> {
         let (from, to) = split_once(word, b':').ok_or(Expected::Pair)?;
-        let from = parse_number(from).ok_or(Expected::Number)?;
-        let to = parse_number(to).ok_or(Expected::Number)?;
-        Ok(Pair { from, to })
+        Ok(Pair {
+            from: usize::from_word(from)?,
+            to: usize::from_word(to)?,
+        })
     }
 }
 
@@ -68,18 +69,13 @@ impl FromWord for Kind {
 }
 
 fn next<T: FromWord>(words: &mut Words) -> Result<T, Expected> {
-    match words.next() {
-        Some(word) => T::from_word(word),
-        None => T::from_word(&[]),
-    }
+    T::from_word(words.next().unwrap_or(&[]))
 }
 
 fn rest<T: FromWord>(words: Words, heap: Global) -> Result<Vec<T>, LineError> {
-    let mut items = Vec::new(heap);
-    for word in words {
-        items.push(T::from_word(word)?)?;
-    }
-    Ok(items)
+    words
+        .map(|word| T::from_word(word).map_err(LineError::Unread))
+        .try_collect(heap)
 }
 
 pub fn no_more(mut words: Words) -> Result<(), Expected> {
@@ -125,8 +121,8 @@ impl<'a> Item<'a> {
     // The item of a line that begins with this word and goes on with these.
     pub fn read(word: &[u8], words: Words<'a>, heap: Global) -> Result<Item<'a>, LineError> {
         match word {
-            b"app" => read_app(words, heap),
-            b"quant" => read_quant(words, heap),
+            b"app" => read_term(TermKind::App, words, heap),
+            b"quant" => read_term(TermKind::Quant, words, heap),
             b"terms" => Ok(Item::Bindings(Bindings::Terms(rest(words, heap)?))),
             b"nodes" => Ok(Item::Bindings(Bindings::Nodes(rest(words, heap)?))),
             b"entry" => read_entry(words, heap),
@@ -180,91 +176,83 @@ impl<'a> Item<'a> {
 }
 
 fn read_symbol<'a>(words: &mut Words<'a>) -> Result<Item<'a>, Expected> {
-    match words.next() {
-        Some(name) => Ok(Item::Symbol(name)),
-        None => Err(Expected::Name),
-    }
+    words.next().map(Item::Symbol).ok_or(Expected::Name)
 }
 
 fn read_var<'a>(words: &mut Words<'a>, heap: Global) -> Result<Item<'a>, Expected> {
-    let kind = TermKind::Var(next(words)?);
     Ok(Item::Term {
-        kind,
+        kind: TermKind::Var(next(words)?),
         children: Vec::new(heap),
     })
 }
 
-fn read_app<'a>(mut words: Words<'a>, heap: Global) -> Result<Item<'a>, LineError> {
-    let kind = TermKind::App(next(&mut words)?);
-    let children = rest(words, heap)?;
-    Ok(Item::Term { kind, children })
-}
-
-fn read_quant<'a>(mut words: Words<'a>, heap: Global) -> Result<Item<'a>, LineError> {
-    let kind = TermKind::Quant(next(&mut words)?);
-    let children = rest(words, heap)?;
-    Ok(Item::Term { kind, children })
+// A term of a kind that has a number, and then its children.
+fn read_term<'a, F: FnOnce(usize) -> TermKind>(
+    kind: F,
+    mut words: Words<'a>,
+    heap: Global,
+) -> Result<Item<'a>, LineError>
+    requires { F.IsAlwaysCallable kind }
+{
+    Ok(Item::Term {
+        kind: kind(next(&mut words)?),
+        children: rest(words, heap)?,
+    })
 }
 
 fn read_mark<'a>(words: &mut Words<'a>) -> Result<Item<'a>, Expected> {
-    let term = next(words)?;
-    let has_var = next(words)?;
-    Ok(Item::Mark { term, has_var })
+    Ok(Item::Mark {
+        term: next(words)?,
+        has_var: next(words)?,
+    })
 }
 
 fn read_entry<'a>(mut words: Words<'a>, heap: Global) -> Result<Item<'a>, LineError> {
-    let node = next(&mut words)?;
-    let pairs = rest(words, heap)?;
-    Ok(Item::Entry { node, pairs })
+    Ok(Item::Entry {
+        node: next(&mut words)?,
+        pairs: rest(words, heap)?,
+    })
 }
 
 fn read_live<'a>(words: &mut Words<'a>) -> Result<Item<'a>, Expected> {
-    let term = next(words)?;
-    let node = next(words)?;
-    Ok(Item::Live(Live { term, node }))
+    Ok(Item::Live(Live {
+        term: next(words)?,
+        node: next(words)?,
+    }))
 }
 
 fn read_class<'a>(kind: ClassKind, words: &mut Words<'a>) -> Result<Item<'a>, Expected> {
-    let node = next(words)?;
-    let loose = next(words)?;
-    let strict = next(words)?;
     Ok(Item::Class {
         kind,
         class: Class {
-            node,
-            loose,
-            strict,
+            node: next(words)?,
+            loose: next(words)?,
+            strict: next(words)?,
         },
     })
 }
 
 fn read_version<'a>(words: &mut Words<'a>) -> Result<Item<'a>, Expected> {
-    let major = next(words)?;
-    let minor = next(words)?;
-    let patch = next(words)?;
     Ok(Item::Version(Version {
-        major,
-        minor,
-        patch,
+        major: next(words)?,
+        minor: next(words)?,
+        patch: next(words)?,
     }))
 }
 
 fn read_find<'a>(words: &mut Words<'a>) -> Result<Item<'a>, Expected> {
-    let kind = next(words)?;
-    let part = next(words)?;
-    let entry = next(words)?;
-    Ok(Item::Action(Action::Find { kind, part, entry }))
+    Ok(Item::Action(Action::Find {
+        kind: next(words)?,
+        part: next(words)?,
+        entry: next(words)?,
+    }))
 }
 
 fn read_offers<'a>(words: &mut Words<'a>) -> Result<Item<'a>, Expected> {
-    let kind = next(words)?;
-    let entry = next(words)?;
-    let term = next(words)?;
-    let pattern_term = next(words)?;
     Ok(Item::Action(Action::Offers(Query {
-        kind,
-        entry,
-        term,
-        pattern_term,
+        kind: next(words)?,
+        entry: next(words)?,
+        term: next(words)?,
+        pattern_term: next(words)?,
     })))
 }

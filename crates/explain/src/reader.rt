@@ -101,7 +101,7 @@ impl Reader<'_> {
 
     fn say(&self, e: Expected) -> io::Result<()> {
         let line = self.line;
-        println!(self.rt; "line {line}: {e}")
+        println!(self.rt; "line {line}: expected {e}")
     }
 }
 

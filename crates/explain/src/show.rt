@@ -3,15 +3,15 @@ use crate::host_text::ClassKind;
 use crate::offers::show_offers;
 use crate::show_host::show_host;
 use crate::text::{Action, RequestText};
-use host::Host;
+use host::{ClassLinks, ClassNumbers, Host};
 use request::Request;
 use std::{fmt, io};
-use store::{Culprit, Fault, Layer, Store};
+use store::Store;
 
 pub fn show(rt: &HostRuntime, text: &RequestText) -> anyhow::Result<()> {
     let request = text.request();
     if let Err(fault) = request.check() {
-        rt.println(Refused(fault))?;
+        rt.println(fault)?;
         return Ok(());
     }
     rt.println("admitted")?;
@@ -27,8 +27,8 @@ fn show_hosted(rt: &HostRuntime, text: &RequestText) -> anyhow::Result<()> {
         .host
         .tables(store.terms.len(), store.nodes.len(), rt.alloc())?;
     match tables.class_kind {
-        ClassKind::Class => show_asked(rt, text, &tables.by_numbers()),
-        ClassKind::Link => show_asked(rt, text, &tables.by_links()),
+        ClassKind::Class => show_asked(rt, text, &tables.host(ClassNumbers)),
+        ClassKind::Link => show_asked(rt, text, &tables.host(ClassLinks)),
     }
 }
 
@@ -55,10 +55,7 @@ fn show_parts(rt: &HostRuntime, request: Request) -> io::Result<()> {
 
 // An admitted request has no part whose places cannot be listed.
 fn place_count(request: Request, term: usize) -> usize {
-    match request.places(term) {
-        Some(places) => places.count(),
-        None => 0,
-    }
+    request.places(term).map_or(0, |places| places.count())
 }
 
 fn show_entries(rt: &HostRuntime, request: Request) -> io::Result<()> {
@@ -90,10 +87,10 @@ struct Matches<'a> {
 
 impl Matches<'_> {
     fn can_match(&self, part: usize) -> bool {
-        match (self.store.term(part), self.store.term(self.term)) {
-            (Some(part), Some(term)) => part.can_match(term),
-            _ => false,
-        }
+        self.store
+            .term(part)
+            .zip(self.store.term(self.term))
+            .is_some_and(|(part, term)| part.can_match(term))
     }
 }
 
@@ -107,31 +104,5 @@ impl fmt::Display for Matches<'_> {
             }
         }
         if any { Ok(()) } else { f.write_str(" none") }
-    }
-}
-
-#[derive(Clone, Copy)]
-pub struct Refused(pub Fault);
-
-impl fmt::Display for Refused {
-    fn fmt<W: fmt::Write>(&self, f: &mut fmt::Formatter<W>) -> fmt::Result {
-        let fault = self.0;
-        let number = fault.refusal.number();
-        let layer = match fault.layer {
-            Layer::Finder => "finder",
-            Layer::Round => "round",
-            Layer::Host => "host",
-        };
-        write!(f, "refused {number} {layer}")?;
-        match fault.culprit {
-            Culprit::Nothing => Ok(()),
-            Culprit::Part(i) => write!(f, " part {i}"),
-            Culprit::Entry(j) => write!(f, " entry {j}"),
-            Culprit::TablePair(k) => write!(f, " pair {k}"),
-            Culprit::FoundPair { part, entry, pair } => write!(
-                f,
-                " part {part} entry {entry} pair {pair}"
-            ),
-        }
     }
 }

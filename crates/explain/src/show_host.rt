@@ -43,13 +43,9 @@ fn same_as<H: Host>(
 ) -> Result<Vec<usize>, AllocError>
     ensures { IfOk result (λ v. v.items ≡ same_below (H.Host.meaning host.now (tables store.entry)).loose node (length (tables store.entry).nodes)) }
 {
-    let mut others = Vec::new(heap);
-    for other in 0..store.nodes.len() {
-        if other != node && host.check_eq(store, node, other) {
-            others.push(other)?;
-        }
-    }
-    Ok(others)
+    (0..store.nodes.len())
+        .filter(|other| *other != node && host.check_eq(store, node, *other))
+        .collect(heap)
 }
 
 // Numbers, each after a space.

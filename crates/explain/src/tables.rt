@@ -1,12 +1,11 @@
 // The tables of a store, as they are read.
-ghost use Rattle.std.specs.Prelude.{◌≡◌, ◌<◌, ◌≤◌, map, vec_len, MatchResult, OnOk};
-ghost use Rattle.explain.specs.Held.{empty, held, counted, with_symbol, with_term, with_mark, with_node};
+ghost use Rattle.std.specs.Prelude.{◌≡◌, ◌<◌, ◌≤◌, vec_len, MatchResult, OnOk};
+ghost use Rattle.explain.specs.Held.{empty, held, with_symbol, with_term, with_mark, with_node};
 ghost use Rattle.store.specs.Tables.{tables};
-ghost use Rattle.store.specs.Terms.{of_children, follows};
 
 use crate::expected::Expected;
 use std::alloc::{AllocError, Global};
-use store::{ENode, HasVar, Span, Store, Term, TermKind, lookup};
+use store::{ENode, HasVar, Span, Store, Term, TermKind};
 
 #[derive(Drop)]
 pub struct StoreText {
@@ -45,7 +44,8 @@ impl StoreText {
     pub fn add_term(&mut self, kind: TermKind, children: &[usize]) -> Result<(), AllocError>
         ensures { OnOk result (held self.new ≡ with_term (held self.old) kind children.now) }
     {
-        let has_var = self.has_var(kind, children);
+        // A child that is no earlier term is left to the check, which refuses it.
+        let has_var = self.store().follows(kind, children, HasVar::No);
         let child_ids = Span {
             offset: self.cells.len(),
             len: children.len(),
@@ -59,49 +59,11 @@ impl StoreText {
         Ok(())
     }
 
-    // What follows from a term's kind and children.
-    fn has_var(&self, kind: TermKind, children: &[usize]) -> HasVar
-        ensures { result ≡ follows kind (map (counted self.now.terms.items) children.now) }
-    {
-        match kind {
-            TermKind::Var(_) => HasVar::Yes,
-            TermKind::App(_) => self.any_has_var(children),
-            TermKind::Quant(_) => HasVar::Unknown,
-        }
-    }
-
-    fn any_has_var(&self, children: &[usize]) -> HasVar
-        ensures { result ≡ of_children (map (counted self.now.terms.items) children.now) }
-    {
-        let mut any = HasVar::No;
-        for child in children {
-            match self.recorded(*child) {
-                HasVar::Unknown => return HasVar::Unknown,
-                HasVar::Yes => any = HasVar::Yes,
-                HasVar::No => {}
-            }
-        }
-        any
-    }
-
-    // A child that is no earlier term is left to the check, which refuses it.
-    fn recorded(&self, child: usize) -> HasVar
-        ensures { result ≡ counted self.now.terms.items child }
-    {
-        match lookup(self.terms.as_slice(), child) {
-            Some(term) => term.has_var,
-            None => HasVar::No,
-        }
-    }
-
     pub fn mark(&mut self, term: usize, has_var: HasVar) -> Result<(), Expected>
         ensures { MatchResult result (λ _. (term < vec_len self.old.terms) × (held self.new ≡ with_mark (held self.old) term has_var)) (λ _. vec_len self.old.terms ≤ term) }
     {
-        if term >= self.terms.len() {
-            return Err(Expected::GivenTerm);
-        }
-        let old = self.terms[term];
-        self.terms[term] = Term { has_var, ..old };
+        let term = self.terms.get_mut(term).ok_or(Expected::GivenTerm)?;
+        term.has_var = has_var;
         Ok(())
     }
 

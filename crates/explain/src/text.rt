@@ -7,7 +7,9 @@ ghost use Rattle.request.specs.Bindings.{bindings};
 
 use crate::expected::Expected;
 use crate::host_text::HostText;
+use crate::once::set_once;
 use crate::tables::StoreText;
+use kind::Kind;
 use request::{ENodeIdx, LogEntry, MatchKind, Pair, Request, TermIdx};
 use std::alloc::{AllocError, Global};
 use std::fmt;
@@ -34,22 +36,12 @@ impl Bindings {
     }
 }
 
-#[derive(Clone, Copy)]
-pub enum Kind {
-    Basic,
-    Complex,
-    Custom,
-    Force,
-}
-
-impl Kind {
-    fn word(self) -> &'static str {
-        match self {
-            Kind::Basic => "basic",
-            Kind::Complex => "complex",
-            Kind::Custom => "custom",
-            Kind::Force => "force",
-        }
+fn word(kind: Kind) -> &'static str {
+    match kind {
+        Kind::Basic => "basic",
+        Kind::Complex => "complex",
+        Kind::Custom => "custom",
+        Kind::Force => "force",
     }
 }
 
@@ -77,7 +69,7 @@ pub struct Query {
 
 impl fmt::Display for Query {
     fn fmt<W: fmt::Write>(&self, f: &mut fmt::Formatter<W>) -> fmt::Result {
-        let kind = self.kind.word();
+        let kind = word(self.kind);
         let entry = self.entry;
         let term = self.term;
         let pattern_term = self.pattern_term;
@@ -112,21 +104,13 @@ impl RequestText {
     pub fn set_pattern(&mut self, term: usize) -> Result<(), Expected>
         ensures { Once result self.old.pattern self.new.pattern term }
     {
-        if self.pattern.is_some() {
-            return Err(Expected::OnePattern);
-        }
-        self.pattern = Some(term);
-        Ok(())
+        set_once(&mut self.pattern, term, Expected::OnePattern)
     }
 
     pub fn set_bindings(&mut self, bindings: Bindings) -> Result<(), Expected>
         ensures { Once result self.old.bindings self.new.bindings bindings }
     {
-        if self.bindings.is_some() {
-            return Err(Expected::OneBindings);
-        }
-        self.bindings = Some(bindings);
-        Ok(())
+        set_once(&mut self.bindings, bindings, Expected::OneBindings)
     }
 
     pub fn add_entry(&mut self, node: usize, pairs: &[Pair]) -> Result<(), AllocError>
@@ -159,10 +143,9 @@ impl RequestText {
     fn bound(&self) -> MatchKind<'_>
         ensures { bindings result ≡ bound_by self.now.bindings }
     {
-        match &self.bindings {
-            Some(bindings) => bindings.bound(),
-            None => MatchKind::Terms(&[]),
-        }
+        self.bindings
+            .as_ref()
+            .map_or(MatchKind::Terms(&[]), |bindings| bindings.bound())
     }
 
     // The request that the lines so far make.

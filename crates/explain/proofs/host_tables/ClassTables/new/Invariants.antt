@@ -1,8 +1,7 @@
-use Rattle.std.proofs.Common.{◌≡◌, drop, vec_items}
-use Rattle.explain.specs.Given.{given, none_given}
-use Rattle.explain.proofs.host_tables.ClassTables.new.Given as the
+use Rattle.explain.proofs.host_tables.ClassTables.new.Given as goal
 
-abbrev pub invariant-loop-line : the.invariant-loop-line
-invariant-loop-line l =
-    (given (λ x. x.node) (λ x. x.loose) (vec_items l.loose) (drop l.line-index l.lines) ≡ given (λ x. x.node) (λ x. x.loose) (none_given l.nodes) l.lines)
-    × (given (λ x. x.node) (λ x. x.strict) (vec_items l.strict) (drop l.line-index l.lines) ≡ given (λ x. x.node) (λ x. x.strict) (none_given l.nodes) l.lines)
+abbrev pub ghost-table : goal.ghost-table
+ghost-table a = (λ l. l.node, λ l. l.loose)
+
+abbrev pub ghost-table-2 : goal.ghost-table-2
+ghost-table-2 a = (λ l. l.node, λ l. l.strict)

@@ -1,0 +1,15 @@
+// What may be given once.
+ghost use Rattle.explain.specs.Once.{Once};
+
+use crate::expected::Expected;
+
+// A second value is refused as the caller says.
+pub fn set_once<T: Drop>(slot: &mut Option<T>, value: T, refusal: Expected) -> Result<(), Expected>
+    ensures { Once result slot.old slot.new value }
+{
+    if slot.is_some() {
+        return Err(refusal);
+    }
+    *slot = Some(value);
+    Ok(())
+}
