@@ -1,6 +1,6 @@
 // What the rewriters offer at a query, and what is printed of it.
 ghost use Rattle.std.specs.Prelude.{◌≡◌, [], IfOk};
-ghost use Rattle.explain.specs.Offering.{listed, first_offers};
+ghost use Rattle.explain.specs.Offering.{listed, asked, first_of, first_offers};
 ghost use Rattle.kind.specs.Kinds.{of_kind};
 ghost use Rattle.std.specs.Option.{option_map};
 ghost use Rattle.store.specs.Tables.{tables};
@@ -82,13 +82,28 @@ fn ask<H: Host, R: EqRewriter + Drop>(
     let Some(offered) = rewriter.possible_rewrite_count(store, host, &[], term, pattern_term) else {
         return Ok(None);
     };
-    let tos = (0..offered.count)
-        .filter_map(|idx| {
-            rewriter.possible_rewrite(store, host, &[], term, pattern_term, mark, idx)
-        })
-        .collect(heap)?;
+    let tos = first_of(heap, store, host, &rewriter, query, mark, offered.count)?;
     Ok(Some(Offers {
         from: offered.from,
         tos,
     }))
+}
+
+// The first offers of the query in the marked state, so many.
+fn first_of<H: Host, R: EqRewriter>(
+    heap: Global,
+    store: Store,
+    host: &H,
+    rewriter: &R,
+    query: Query,
+    mark: usize,
+    count: usize,
+) -> Result<Vec<usize>, AllocError>
+    ensures { IfOk result (λ v. v.items ≡ first_of ((R.EqRewriter.rewriter rewriter.now (tables store.entry)).ask mark (asked (H.Host.meaning host.now (tables store.entry)) query)) count) }
+{
+    (0..count)
+        .filter_map(|idx| {
+            rewriter.possible_rewrite(store, host, &[], query.term, query.pattern_term, mark, idx)
+        })
+        .collect(heap)
 }
