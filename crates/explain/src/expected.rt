@@ -1,4 +1,5 @@
 // Why a line cannot be read.
+use crate::host_text::ClassKind;
 use std::alloc::AllocError;
 use thiserror::Error;
 
@@ -29,10 +30,8 @@ pub enum Expected {
     OneBindings,
     #[error("no second 'version' line")]
     OneVersion,
-    #[error("'class', as above")]
-    Class,
-    #[error("'link', as above")]
-    Link,
+    #[error("'{0}', as above")]
+    ClassLine(ClassKind),
 }
 
 // Only the first of these is the line's fault.

@@ -14,7 +14,7 @@ const NO_NODE: usize = usize::MAX;
 #[derive(Drop)]
 pub struct LiveTable(Vec<usize>);
 
-// The classes of each node.
+// The classes of each node, in two tables as the host takes them.
 #[derive(Drop)]
 pub struct ClassTables {
     loose: Vec<usize>,

@@ -8,6 +8,7 @@ use crate::expected::{Expected, LineError};
 use crate::host_tables::{ClassTables, HostTables, LiveTable};
 use crate::once::set_once;
 use std::alloc::{AllocError, Global};
+use std::fmt;
 use version::Version;
 
 #[derive(Clone, Copy)]
@@ -17,10 +18,19 @@ pub struct Live {
 }
 
 // Whether the host's classes are given by class numbers or by links.
-#[derive(Clone, Copy, PartialEq, Eq)]
+#[derive(Clone, Copy, PartialEq, Eq, Debug)]
 pub enum ClassKind {
     Class,
     Link,
+}
+
+impl fmt::Display for ClassKind {
+    fn fmt<W: fmt::Write>(&self, f: &mut fmt::Formatter<W>) -> fmt::Result {
+        match self {
+            ClassKind::Class => f.write_str("class"),
+            ClassKind::Link => f.write_str("link"),
+        }
+    }
 }
 
 #[derive(Clone, Copy)]
@@ -60,14 +70,11 @@ impl HostText {
         ensures kind { MatchResult result (λ _. (unwrap_or self.old.class_kind kind ≡ kind) × (self.new.class_kind ≡ Some kind)) (λ _. unwrap_or self.old.class_kind kind ≢ kind) }
         ensures classes { self.new.classes ≡ self.old.classes }
     {
-        match (self.class_kind, kind) {
-            (Some(ClassKind::Class), ClassKind::Link) => Err(Expected::Class),
-            (Some(ClassKind::Link), ClassKind::Class) => Err(Expected::Link),
-            _ => {
-                self.class_kind = Some(kind);
-                Ok(())
-            }
+        let first = *self.class_kind.get_or_insert(kind);
+        if first != kind {
+            return Err(Expected::ClassLine(first));
         }
+        Ok(())
     }
 
     pub fn add_class(&mut self, kind: ClassKind, class: Class) -> Result<(), LineError>

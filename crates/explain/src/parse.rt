@@ -10,44 +10,51 @@ use std::alloc::Global;
 use store::{HasVar, TermKind};
 use version::Version;
 
-// What one word is read as. A missing word reads as an empty one, which nothing is read from.
-trait FromWord: Drop {
-    fn from_word(word: &[u8]) -> Result<Self, Expected>
-    where
-        Self: Sized;
-}
+// A word, empty where the line has no more. It has a type of its own so that other crates' types can be read from it.
+#[derive(Clone, Copy)]
+struct Word<'a>(&'a [u8]);
 
-impl FromWord for usize {
-    fn from_word(word: &[u8]) -> Result<usize, Expected> {
-        parse_number(word).ok_or(Expected::Number)
+impl<'a> TryFrom<Word<'a>> for usize {
+    type Error = Expected;
+
+    fn try_from(word: Word<'a>) -> Result<usize, Expected> {
+        parse_number(word.0).ok_or(Expected::Number)
     }
 }
 
-impl FromWord for TermIdx {
-    fn from_word(word: &[u8]) -> Result<TermIdx, Expected> {
-        usize::from_word(word).map(TermIdx)
+impl<'a> TryFrom<Word<'a>> for TermIdx {
+    type Error = Expected;
+
+    fn try_from(word: Word<'a>) -> Result<TermIdx, Expected> {
+        usize::try_from(word).map(TermIdx)
     }
 }
 
-impl FromWord for ENodeIdx {
-    fn from_word(word: &[u8]) -> Result<ENodeIdx, Expected> {
-        usize::from_word(word).map(ENodeIdx)
+impl<'a> TryFrom<Word<'a>> for ENodeIdx {
+    type Error = Expected;
+
+    fn try_from(word: Word<'a>) -> Result<ENodeIdx, Expected> {
+        usize::try_from(word).map(ENodeIdx)
     }
 }
 
-impl FromWord for Pair {
-    fn from_word(word: &[u8]) -> Result<Pair, Expected> {
-        let (from, to) = split_once(word, b':').ok_or(Expected::Pair)?;
+impl<'a> TryFrom<Word<'a>> for Pair {
+    type Error = Expected;
+
+    fn try_from(word: Word<'a>) -> Result<Pair, Expected> {
+        let (from, to) = split_once(word.0, b':').ok_or(Expected::Pair)?;
         Ok(Pair {
-            from: usize::from_word(from)?,
-            to: usize::from_word(to)?,
+            from: usize::try_from(Word(from))?,
+            to: usize::try_from(Word(to))?,
         })
     }
 }
 
-impl FromWord for HasVar {
-    fn from_word(word: &[u8]) -> Result<HasVar, Expected> {
-        match word {
+impl<'a> TryFrom<Word<'a>> for HasVar {
+    type Error = Expected;
+
+    fn try_from(word: Word<'a>) -> Result<HasVar, Expected> {
+        match word.0 {
             b"no" => Ok(HasVar::No),
             b"yes" => Ok(HasVar::Yes),
             b"unknown" => Ok(HasVar::Unknown),
@@ -56,9 +63,11 @@ impl FromWord for HasVar {
     }
 }
 
-impl FromWord for Kind {
-    fn from_word(word: &[u8]) -> Result<Kind, Expected> {
-        match word {
+impl<'a> TryFrom<Word<'a>> for Kind {
+    type Error = Expected;
+
+    fn try_from(word: Word<'a>) -> Result<Kind, Expected> {
+        match word.0 {
             b"basic" => Ok(Kind::Basic),
             b"complex" => Ok(Kind::Complex),
             b"custom" => Ok(Kind::Custom),
@@ -68,13 +77,16 @@ impl FromWord for Kind {
     }
 }
 
-fn next<T: FromWord>(words: &mut Words) -> Result<T, Expected> {
-    T::from_word(words.next().unwrap_or(&[]))
+fn next<'a, T: TryFrom<Word<'a>, Error = Expected>>(words: &mut Words<'a>) -> Result<T, Expected> {
+    T::try_from(Word(words.next().unwrap_or(&[])))
 }
 
-fn rest<T: FromWord>(words: Words, heap: Global) -> Result<Vec<T>, LineError> {
+fn rest<'a, T: TryFrom<Word<'a>, Error = Expected> + Drop>(
+    words: Words<'a>,
+    heap: Global,
+) -> Result<Vec<T>, LineError> {
     words
-        .map(|word| T::from_word(word).map_err(LineError::Unread))
+        .map(|word| T::try_from(Word(word)).map_err(LineError::Unread))
         .try_collect(heap)
 }
 

@@ -96,13 +96,14 @@ impl Matches<'_> {
 
 impl fmt::Display for Matches<'_> {
     fn fmt<W: fmt::Write>(&self, f: &mut fmt::Formatter<W>) -> fmt::Result {
-        let mut any = false;
+        if !self.parts.iter().any(|part| self.can_match(*part)) {
+            return f.write_str(" none");
+        }
         for (i, part) in self.parts.iter().enumerate() {
             if self.can_match(*part) {
                 write!(f, " {i}")?;
-                any = true;
             }
         }
-        if any { Ok(()) } else { f.write_str(" none") }
+        Ok(())
     }
 }

@@ -13,6 +13,7 @@ pub fn show_host<H: Host>(rt: &HostRuntime, store: Store, host: &H) -> anyhow::R
     show_same(rt, store, host)
 }
 
+// Terms and nodes are known by their numbers alone, so these loops count.
 fn show_live<H: Host>(rt: &HostRuntime, store: Store, host: &H) -> io::Result<()> {
     for term in 0..store.terms.len() {
         if let Some(node) = host.get_enode_imm(store, term) {
