@@ -15,8 +15,8 @@ abbrev pub asked : HostMeaning → Query → rewrite.Query
 asked m q = query m [] q.term q.pattern_term
 
 -- from its first state
-abbrev pub first_offers : RewriterMeaning → HostMeaning → Query → Option rewrite.Offers
-first_offers ρ m q = ρ.ask ρ.first (asked m q)
+abbrev pub first_offers : RewriterMeaning → rewrite.Query → Option rewrite.Offers
+first_offers ρ q = ρ.ask ρ.first q
 
 -- the offers of an answer whose numbers are below this one
 abbrev pub first_of : Option rewrite.Offers → ℕ → List ℕ

@@ -2,6 +2,7 @@
 ghost use Rattle.std.specs.Prelude.{◌≡◌, [], IfOk};
 ghost use Rattle.explain.specs.Offering.{listed, asked, first_of, first_offers};
 ghost use Rattle.kind.specs.Kinds.{of_kind};
+ghost use Rattle.rewrite.specs.Meaning.{meant};
 ghost use Rattle.std.specs.Option.{option_map};
 ghost use Rattle.store.specs.Tables.{tables};
 
@@ -49,7 +50,7 @@ pub fn show_offers<H: Host>(
     Ok(())
 }
 
-// What the rewriter of the query's kind over these pairs offers.
+// What the rewriter of the query's kind over these pairs offers, with no node set aside.
 fn offers_of<H: Host>(
     heap: Global,
     store: Store,
@@ -57,32 +58,32 @@ fn offers_of<H: Host>(
     pairs: &[Pair],
     query: Query,
 ) -> Result<Option<Offers>, AllocError>
-    ensures { IfOk result (λ o. option_map listed o ≡ first_offers (of_kind query.kind pairs.now [] (tables store.entry)) (H.Host.meaning host.now (tables store.entry)) query) }
+    ensures { IfOk result (λ o. option_map listed o ≡ first_offers (of_kind query.kind pairs.now [] (tables store.entry)) (asked (H.Host.meaning host.now (tables store.entry)) query)) }
 {
-    ask(heap, store, host, AnyEq::new(query.kind, pairs, &[]), query)
+    let asked = rewrite::Query {
+        store,
+        host,
+        aside: &[],
+        blame: query.term,
+        subpat: query.pattern_term,
+    };
+    ask(heap, AnyEq::new(query.kind, pairs, &[]), &asked)
 }
 
-// What a rewriter offers from its first state, with no node set aside.
+// What a rewriter offers from its first state.
 fn ask<H: Host, R: EqRewriter + Drop>(
     heap: Global,
-    store: Store,
-    host: &H,
     mut rewriter: R,
-    query: Query,
+    query: &rewrite::Query<'_, H>,
 ) -> Result<Option<Offers>, AllocError>
-    ensures { IfOk result (λ o. option_map listed o ≡ first_offers (R.EqRewriter.rewriter rewriter (tables store.entry)) (H.Host.meaning host.now (tables store.entry)) query) }
+    ensures { IfOk result (λ o. option_map listed o ≡ first_offers (R.EqRewriter.rewriter rewriter (tables query.now.store)) (meant H.Host.meaning query.now)) }
 {
-    let Query {
-        term,
-        pattern_term,
-        ..
-    } = query;
     rewriter.reset();
     let mark = rewriter.mark();
-    let Some(offered) = rewriter.possible_rewrite_count(store, host, &[], term, pattern_term) else {
+    let Some(offered) = rewriter.possible_rewrite_count(query) else {
         return Ok(None);
     };
-    let tos = first_of(heap, store, host, &rewriter, query, mark, offered.count)?;
+    let tos = first_of(heap, &rewriter, query, mark, offered.count)?;
     Ok(Some(Offers {
         from: offered.from,
         tos,
@@ -92,18 +93,14 @@ fn ask<H: Host, R: EqRewriter + Drop>(
 // The first offers of the query in the marked state, so many.
 fn first_of<H: Host, R: EqRewriter>(
     heap: Global,
-    store: Store,
-    host: &H,
     rewriter: &R,
-    query: Query,
+    query: &rewrite::Query<'_, H>,
     mark: usize,
     count: usize,
 ) -> Result<Vec<usize>, AllocError>
-    ensures { IfOk result (λ v. v.items ≡ first_of ((R.EqRewriter.rewriter rewriter.now (tables store.entry)).ask mark (asked (H.Host.meaning host.now (tables store.entry)) query)) count) }
+    ensures { IfOk result (λ v. v.items ≡ first_of ((R.EqRewriter.rewriter rewriter.now (tables query.now.store)).ask mark (meant H.Host.meaning query.now)) count) }
 {
     (0..count)
-        .filter_map(|idx| {
-            rewriter.possible_rewrite(store, host, &[], query.term, query.pattern_term, mark, idx)
-        })
+        .filter_map(|idx| rewriter.possible_rewrite(query, mark, idx))
         .collect(heap)
 }

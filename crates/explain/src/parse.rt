@@ -67,13 +67,7 @@ impl<'a> TryFrom<Word<'a>> for Kind {
     type Error = Expected;
 
     fn try_from(word: Word<'a>) -> Result<Kind, Expected> {
-        match word.0 {
-            b"basic" => Ok(Kind::Basic),
-            b"complex" => Ok(Kind::Complex),
-            b"custom" => Ok(Kind::Custom),
-            b"force" => Ok(Kind::Force),
-            _ => Err(Expected::Kind),
-        }
+        Kind::try_from(word.0).map_err(|_| Expected::Kind)
     }
 }
 

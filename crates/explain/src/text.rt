@@ -36,15 +36,6 @@ impl Bindings {
     }
 }
 
-fn word(kind: Kind) -> &'static str {
-    match kind {
-        Kind::Basic => "basic",
-        Kind::Complex => "complex",
-        Kind::Custom => "custom",
-        Kind::Force => "force",
-    }
-}
-
 #[derive(Clone, Copy)]
 pub enum Action {
     Find {
@@ -69,7 +60,7 @@ pub struct Query {
 
 impl fmt::Display for Query {
     fn fmt<W: fmt::Write>(&self, f: &mut fmt::Formatter<W>) -> fmt::Result {
-        let kind = word(self.kind);
+        let kind = self.kind;
         let entry = self.entry;
         let term = self.term;
         let pattern_term = self.pattern_term;

@@ -1,14 +1,13 @@
 use Rattle.std.proofs.Common.{vec_items, sym, ap, ◌∙◌}
 use Rattle.store.specs.Tables.{tables}
-use Rattle.rewrite.specs.Meaning.{counted}
-use Rattle.explain.specs.Offering.{asked}
+use Rattle.rewrite.specs.Meaning.{meant, counted}
 use Rattle.explain.proofs.Offered.{all_offered}
 use Rattle.explain.proofs.offers.ask.Goals as goal
 
 pub returns : goal.returns
 returns g c =
-    let S = tables c.args.store in
-    let query = asked (g.H.Host.meaning c.args.host.now S) c.args.query in
+    let S = tables c.args.query.now.store in
+    let query = meant g.H.Host.meaning c.args.query.now in
     let rewriter = g.R.EqRewriter.rewriter in
     let first = c.reset.new.self in
     let before = ap (λ ρ. (ρ S).ask c.mark-mark.result query) c.possible_rewrite_count.ensures.same in
