@@ -1,5 +1,5 @@
 -- The first word of bytes, after the white space at their front. Assumes nothing.
-use Rattle.std.proofs.Common.{◌≡◌, ℕ, ◌+◌, ◌<◌, ◌≤◌, true, false, List, [], ◌++◌, length, get_or, take, drop, sym, ap, ◌∙◌, arith, ⊎_elim, add-zero, length-drop, length-take-le, take-append-drop, get_or-drop}
+use Rattle.std.proofs.Common.{◌≡◌, ℕ, ◌<◌, ◌≤◌, true, false, List, ◌++◌, length, get_or, take, sym, ap, ◌∙◌, arith, ⊎_elim, add-zero, length-take-le, take-append-drop, get_or-drop}
 use Rattle.std.proofs.lemmas.List.{get_or-take, get_or_default, nil_from_length}
 use Rattle.std.proofs.str.Laws.{order}
 use Rattle.std.specs.Char.{is_ascii_whitespace}

@@ -1,8 +1,8 @@
 -- An answer is known by its offers, taken by number.
 use Rattle.std.proofs.Common.{◌≡◌, ℕ, suc, ◌+◌, List, [], ◌∷◌, length, Some, None, Option, sym, refl, ap, ◌∙◌, arith}
+use Rattle.std.proofs.lemmas.Option.{none-some, same_Some}
 use Rattle.std.specs.List.{slice_get, filter_map, cons_option, range_with_len}
 use Rattle.explain.specs.Offering.{first_of}
-use Rattle.store.proofs.Decided.{some_not_none, same_some}
 use Rattle.rewrite.specs.Meaning.{Offers, counted, offer_at}
 use Rattle.rewrite.specs.declared.offered.Offered.{Offered}
 
@@ -16,9 +16,9 @@ taken (x ∷ xs) offer from h =
 
 -- the answer whose offers are all taken
 pub all_offered : (o : Option Offers) (a : Offered) (tos : List ℕ) → Some a ≡ counted o → tos ≡ first_of o a.count → Some (record { from = a.from; tos = tos }) ≡ o
-all_offered None a tos e t = absurd (some_not_none None a refl (sym e))
+all_offered None a tos e t = absurd (none-some a (sym e))
 all_offered (Some o) a tos e t =
-    let same = same_some _ _ a refl (sym e) in
+    let same = same_Some _ a (sym e) in
     let back = sym same in
     let none_before : (i : ℕ) → 0 + i ≡ i = λ i. omega arith in
     let full = t ∙ ap (λ x. first_of (Some o) x.count) back ∙ taken o.tos (offer_at (Some o)) 0 (λ i. ap (slice_get o.tos) (none_before i)) in

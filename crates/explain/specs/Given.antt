@@ -1,7 +1,6 @@
 -- The tables that a host's lines give. Assumes nothing.
 use Rattle.std.specs.Prelude.{◌≡◌, ℕ, ◌-◌, ◌^◌, List, fold, replicate, slice_set}
-use denote.Param.Members.{Shared}
-use denote.Ref.{Bor}
+use Rattle.std.proofs.Common.{Bor}
 
 -- a table in which no line gives a number
 abbrev pub none_given : ℕ → List ℕ
@@ -11,6 +10,6 @@ none_given size = replicate size (2 ^ 64 - 1)
 abbrev pub given : {L : Type 0} → (L → ℕ) → (L → ℕ) → List ℕ → List L → List ℕ
 given place number table lines = fold (λ filled line. slice_set filled (place line) (number line)) table lines
 
--- each call at a line gives what the function says of the line
-abbrev pub Reads : {F L : Type 0} → Shared F (Bor L × Unit {0}) ℕ → F → (L → ℕ) → Type 0
-Reads g f read = (l : Bor _) (n : ℕ) → g.post f (l, tt) n → n ≡ read l.now
+-- what the calls give at a line is what the function says of it
+abbrev pub Reads : {L : Type 0} → (Bor L → ℕ → Type 0) → (L → ℕ) → Type 0
+Reads gives read = (line : Bor _) (n : ℕ) → gives line n → n ≡ read line.now

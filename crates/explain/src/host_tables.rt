@@ -41,8 +41,8 @@ fn table<L, P: Fn(&L) -> usize, N: Fn(&L) -> usize>(
     ghost reads: { (L → ℕ) × (L → ℕ) }
     requires place_callable { P.IsAlwaysCallable place }
     requires number_callable { N.IsAlwaysCallable number }
-    requires place { Reads P.Fn place reads.0 }
-    requires number { Reads N.Fn number reads.1 }
+    requires place { Reads (P.post place) reads.0 }
+    requires number { Reads (N.post number) reads.1 }
     ensures { IfOk result (λ t. t.items ≡ given reads.0 reads.1 (none_given size) lines.now) }
 {
     let mut table = vec![in heap; NO_NODE; size]?;

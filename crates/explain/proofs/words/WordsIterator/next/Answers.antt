@@ -1,4 +1,4 @@
-use Rattle.std.proofs.Common.{length, rules, true-eqb, false-eqb, arith}
+use Rattle.std.proofs.Common.{length, true-eqb, false-eqb, arith}
 use Rattle.explain.proofs.Cutting.{first_word, no_word}
 use Rattle.explain.proofs.words.WordsIterator.next.Goals as goal
 
