@@ -16,10 +16,7 @@ abbrev pub empty : Tables
 empty = record { terms = []; nodes = []; cells = []; symbols = []; names = [] }
 
 abbrev pub with_symbol : Tables → List ℕ → Tables
-with_symbol S name = record {
-  terms = S.terms;
-  nodes = S.nodes;
-  cells = S.cells;
+with_symbol S name = record S {
   symbols = S.symbols ++ (record { offset = length S.names; len = length name } ∷ []);
   names = S.names ++ name;
 }
@@ -33,21 +30,18 @@ new_term S kind children = record {
 }
 
 abbrev pub with_term : Tables → TermKind → List ℕ → Tables
-with_term S kind children = record {
+with_term S kind children = record S {
   terms = S.terms ++ (new_term S kind children ∷ []);
-  nodes = S.nodes;
   cells = S.cells ++ children;
-  symbols = S.symbols;
-  names = S.names;
 }
 
 abbrev pub with_node : Tables → ℕ → Tables
-with_node S owner = record { terms = S.terms; nodes = S.nodes ++ (record { owner = owner } ∷ []); cells = S.cells; symbols = S.symbols; names = S.names }
+with_node S owner = record S { nodes = S.nodes ++ (record { owner = owner } ∷ []) }
 
 abbrev pub remarked : List Term → ℕ → HasVar → Option Term → List Term
 remarked ts t m None = ts
-remarked ts t m (Some x) = slice_set ts t (record { kind = x.kind; has_var = m; child_ids = x.child_ids })
+remarked ts t m (Some x) = slice_set ts t (record x { has_var = m })
 
 -- another record in place of the one that follows from the children
 abbrev pub with_mark : Tables → ℕ → HasVar → Tables
-with_mark S t m = record { terms = remarked S.terms t m (slice_get S.terms t); nodes = S.nodes; cells = S.cells; symbols = S.symbols; names = S.names }
+with_mark S t m = record S { terms = remarked S.terms t m (slice_get S.terms t) }

@@ -25,9 +25,7 @@ struct Offers {
 
 impl fmt::Display for Offers {
     fn fmt<W: fmt::Write>(&self, f: &mut fmt::Formatter<W>) -> fmt::Result {
-        let from = self.from;
-        let tos = Numbers(self.tos.as_slice());
-        write!(f, "from {from} to{tos}")
+        write!(f, "from {} to{}", self.from, Numbers(self.tos.as_slice()))
     }
 }
 

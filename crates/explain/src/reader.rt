@@ -100,8 +100,7 @@ impl Reader<'_> {
     }
 
     fn say(&self, e: Expected) -> io::Result<()> {
-        let line = self.line;
-        println!(self.rt; "line {line}: expected {e}")
+        println!(self.rt; "line {}: expected {e}", self.line)
     }
 }
 

@@ -46,9 +46,10 @@ fn show_asked<H: Host>(rt: &HostRuntime, text: &RequestText, host: &H) -> anyhow
 
 fn show_parts(rt: &HostRuntime, request: Request) -> io::Result<()> {
     for (i, part) in request.parts().iter().enumerate() {
-        let term = *part;
-        let places = place_count(request, term);
-        println!(rt; "part {i}: term {term} places {places}")?;
+        println!(rt;
+            "part {i}: term {part} places {}",
+            place_count(request, *part)
+        )?;
     }
     Ok(())
 }
@@ -60,19 +61,19 @@ fn place_count(request: Request, term: usize) -> usize {
 
 fn show_entries(rt: &HostRuntime, request: Request) -> io::Result<()> {
     for (j, entry) in request.entries.iter().enumerate() {
-        let entry = *entry;
         // An admitted request has no entry whose node is missing.
         let Some(term) = request.store.owner(entry.node) else {
             continue;
         };
-        let node = entry.node;
-        let pairs = entry.pairs.len;
         let matches = Matches {
             store: request.store,
             parts: request.parts(),
             term,
         };
-        println!(rt; "entry {j}: node {node} term {term} pairs {pairs} matches{matches}")?;
+        println!(rt;
+            "entry {j}: node {} term {term} pairs {} matches{matches}",
+            entry.node, entry.pairs.len
+        )?;
     }
     Ok(())
 }

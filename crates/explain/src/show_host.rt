@@ -28,8 +28,7 @@ fn show_same<H: Host>(rt: &HostRuntime, store: Store, host: &H) -> anyhow::Resul
     for node in 0..store.nodes.len() {
         let others = same_as(rt.alloc(), store, host, node)?;
         if !others.is_empty() {
-            let others = Numbers(others.as_slice());
-            println!(rt; "same {node}{others}")?;
+            println!(rt; "same {node}{}", Numbers(others.as_slice()))?;
         }
     }
     Ok(())

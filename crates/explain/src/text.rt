@@ -60,11 +60,11 @@ pub struct Query {
 
 impl fmt::Display for Query {
     fn fmt<W: fmt::Write>(&self, f: &mut fmt::Formatter<W>) -> fmt::Result {
-        let kind = self.kind;
-        let entry = self.entry;
-        let term = self.term;
-        let pattern_term = self.pattern_term;
-        write!(f, "offers {kind} {entry} {term} {pattern_term}")
+        write!(
+            f,
+            "offers {} {} {} {}",
+            self.kind, self.entry, self.term, self.pattern_term
+        )
     }
 }
 
