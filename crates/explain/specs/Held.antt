@@ -1,5 +1,5 @@
 -- What the tables of a store hold as they are read, and what a line adds. Assumes nothing.
-use Rattle.std.specs.Prelude.{ℕ, List, [], ◌∷◌, ◌++◌, map, length, Some, None, vec_items, Option, slice_set}
+use Rattle.std.specs.Prelude.{ℕ, List, [], ◌∷◌, ◌++◌, map, length, Some, None, Option, slice_set}
 use Rattle.std.specs.List.{slice_get}
 use Rattle.store.specs.declared.term.Term.{Term}
 use Rattle.store.specs.declared.term.TermKind.{TermKind}
@@ -7,10 +7,6 @@ use Rattle.store.specs.declared.term.HasVar.{HasVar}
 use Rattle.store.specs.declared.term.HasVar.TheVariants.{No}
 use Rattle.store.specs.Tables.{Tables, recorded_or}
 use Rattle.store.specs.Terms.{follows}
-use Rattle.explain.specs.declared.tables.StoreText.{StoreText}
-
-abbrev pub held : StoreText → Tables
-held s = record { terms = vec_items s.terms; nodes = vec_items s.nodes; cells = vec_items s.cells; symbols = vec_items s.symbols; names = vec_items s.names }
 
 abbrev pub empty : Tables
 empty = record { terms = []; nodes = []; cells = []; symbols = []; names = [] }

@@ -8,7 +8,6 @@ use Rattle.request.specs.declared.kinds.LogEntry.{LogEntry}
 use Rattle.explain.specs.declared.text.Bindings.{Bindings}
 use Rattle.explain.specs.declared.text.Bindings.TheVariants.{Terms, Nodes}
 use Rattle.explain.specs.declared.text.RequestText.{RequestText}
-use Rattle.explain.specs.Held.{held}
 
 -- an entry whose pairs stand in the table from this place on
 abbrev pub logged : ℕ → ℕ → ℕ → LogEntry
@@ -25,4 +24,4 @@ bound_by (Some b) = bound_items b
 
 -- without a pattern, it is one that no term has the number of
 abbrev pub asked_by : RequestText → Asked
-asked_by t = record { store = held t.store; pattern = unwrap_or t.pattern (2 ^ 64 - 1); bound = bound_by t.bindings; entries = vec_items t.entries; pairs = vec_items t.pairs }
+asked_by t = record { store = t.store; pattern = unwrap_or t.pattern (2 ^ 64 - 1); bound = bound_by t.bindings; entries = vec_items t.entries; pairs = vec_items t.pairs }

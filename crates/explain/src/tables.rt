@@ -1,10 +1,11 @@
 // The tables of a store, as they are read.
-ghost use Rattle.std.specs.Prelude.{◌≡◌, ◌<◌, ◌≤◌, vec_len, MatchResult, OnOk};
-ghost use Rattle.explain.specs.Held.{empty, held, with_symbol, with_term, with_mark, with_node};
+ghost use Rattle.std.specs.Prelude.{◌≡◌, ◌<◌, ◌≤◌, length, MatchResult, OnOk};
+ghost use Rattle.explain.specs.Held.{empty, with_symbol, with_term, with_mark, with_node};
 ghost use Rattle.store.specs.Tables.{tables};
 
 use crate::expected::Expected;
 use std::alloc::{AllocError, Global};
+use std::marker::Model;
 use store::{ENode, HasVar, Span, Store, Term, TermKind};
 
 #[derive(Drop)]
@@ -16,9 +17,18 @@ pub struct StoreText {
     names: Vec<u8>,
 }
 
+// Clauses see it as the tables of a store.
+impl Model for StoreText {
+    ghost use Rattle.store.specs.Tables.{Tables};
+
+    ghost Value = { Tables };
+
+    ghost view = { λ s. record { terms = s.terms.items; nodes = s.nodes.items; cells = s.cells.items; symbols = s.symbols.items; names = s.names.items } };
+}
+
 impl StoreText {
     pub fn new(heap: Global) -> StoreText
-        ensures { held result ≡ empty }
+        ensures { result ≡ empty }
     {
         StoreText {
             terms: Vec::new(heap),
@@ -30,7 +40,7 @@ impl StoreText {
     }
 
     pub fn add_symbol(&mut self, name: &[u8]) -> Result<(), AllocError>
-        ensures { OnOk result (held self.new ≡ with_symbol (held self.old) name.now) }
+        ensures { OnOk result (self.new ≡ with_symbol self.old name.now) }
     {
         let offset = self.names.len();
         self.names.extend_from_slice(name)?;
@@ -42,7 +52,7 @@ impl StoreText {
     }
 
     pub fn add_term(&mut self, kind: TermKind, children: &[usize]) -> Result<(), AllocError>
-        ensures { OnOk result (held self.new ≡ with_term (held self.old) kind children.now) }
+        ensures { OnOk result (self.new ≡ with_term self.old kind children.now) }
     {
         // A child that is no earlier term is left to the check, which refuses it.
         let has_var = self.store().follows(kind, children, HasVar::No);
@@ -60,7 +70,7 @@ impl StoreText {
     }
 
     pub fn mark(&mut self, term: usize, has_var: HasVar) -> Result<(), Expected>
-        ensures { MatchResult result (λ _. (term < vec_len self.old.terms) × (held self.new ≡ with_mark (held self.old) term has_var)) (λ _. vec_len self.old.terms ≤ term) }
+        ensures { MatchResult result (λ _. (term < length self.old.terms) × (self.new ≡ with_mark self.old term has_var)) (λ _. length self.old.terms ≤ term) }
     {
         let term = self.terms.get_mut(term).ok_or(Expected::GivenTerm)?;
         term.has_var = has_var;
@@ -68,14 +78,14 @@ impl StoreText {
     }
 
     pub fn add_node(&mut self, owner: usize) -> Result<(), AllocError>
-        ensures { OnOk result (held self.new ≡ with_node (held self.old) owner) }
+        ensures { OnOk result (self.new ≡ with_node self.old owner) }
     {
         self.nodes.push(ENode { owner })?;
         Ok(())
     }
 
     pub fn store(&self) -> Store<'_>
-        ensures { tables result ≡ held self.now }
+        ensures { tables result ≡ self.now }
     {
         Store {
             terms: self.terms.as_slice(),
