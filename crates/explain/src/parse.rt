@@ -22,6 +22,7 @@ impl<'a> TryFrom<Word<'a>> for usize {
     }
 }
 
+// The two kinds of numbers are types of their own so that none is taken for the other, and each is read in a line.
 impl<'a> TryFrom<Word<'a>> for TermIdx {
     type Error = Expected;
 

@@ -18,7 +18,7 @@ use store::Span;
 // No term has this number.
 const NO_TERM: usize = usize::MAX;
 
-// What the pattern's variables are bound to.
+// What the pattern's variables are bound to. A request borrows its bindings, so what is read is held in an enum of its own.
 #[derive(Drop)]
 pub enum Bindings {
     Terms(Vec<TermIdx>),

@@ -51,6 +51,7 @@ impl<'a, R: EqRewriter> Play<'a, R> {
             }
             None => print!(self.rt; "nothing")?,
         }
+        // An offer is asked for by its number, so this counts.
         for idx in 0..count {
             let to = OrNone(self.rewriter.possible_rewrite(&query, mark, idx));
             print!(self.rt; " {to}")?;

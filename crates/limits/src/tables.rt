@@ -25,6 +25,8 @@ impl Bindings {
     }
 }
 
+// `explain` keeps like tables as it reads them. The two are programs, and a library for what they share, which is to lend them as a store,
+// would be longer than it.
 #[derive(Drop)]
 pub struct Tables {
     pub terms: Vec<Term>,

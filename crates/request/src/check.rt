@@ -51,6 +51,8 @@ impl Request<'_> {
         self.places(part).is_some()
     }
 
+    // The loops over parts, entries and pairs are three: a part may be judged only where the store keeps its rules and has the part, and a
+    // closure handed to one loop for all would have to be callable anywhere.
     fn check_parts(self) -> Result<(), Fault>
         requires { StoreRules (asked self).store }
         ensures { MatchResult result (λ _. EachPart (asked self.entry)) (Faulted (asked self.entry) BadPart) }

@@ -17,6 +17,8 @@ use request::Pair;
 use rewrite::EqRewriter;
 use store::{Store, lookup};
 
+// A level that is gone on with has been taken off the list, so there is room for it. No invariant of the type says that, since it is full
+// at times; so the calls between ask for the room.
 impl PatternMatcher {
     // A term that was matched whole by a pair, or not.
     fn settle(&mut self, by: Option<Pair>)
