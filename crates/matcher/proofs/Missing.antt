@@ -2,7 +2,7 @@
 use Rattle.std.proofs.Common.{◌≡◌, ℕ, suc, ◌+◌, ◌<◌, Bool, true, false, cond, List, [], ◌∷◌, ◌++◌, reverse, length, take, drop, Some, None, Option, sym, refl, ap, ◌∙◌, subst, add-one, arith, length-take}
 use mathlib.Core.Path.{transport}
 use Rattle.std.specs.List.{slice_get}
-use Rattle.std.proofs.lemmas.List.{reverse-append, length_push, length-reverse}
+use Rattle.std.proofs.lemmas.List.{reverse-append, length_push}
 use Rattle.store.proofs.Decided.{some_not_none, nth_there}
 use Rattle.store.specs.Tables.{term_at, owner_of}
 use Rattle.request.specs.declared.kinds.Pair.{Pair}
@@ -15,7 +15,7 @@ use Rattle.matcher.specs.declared.level.Mode.TheVariants.{Miss}
 use Rattle.matcher.specs.declared.level.Trying.{Trying}
 use Rattle.matcher.specs.declared.machine.PatternMatcher.{PatternMatcher}
 use Rattle.matcher.specs.Machine.{tos_of, left, resume, runner, phase_run, PhaseSound, LevelSound, Stacked, ModeSound}
-use Rattle.matcher.specs.Running.{Run, tick, offers_run, one_run}
+use Rattle.matcher.specs.Running.{tick, offers_run, one_run}
 use Rattle.matcher.specs.Search.{Asking, ends}
 use Rattle.matcher.specs.Stepping.{stack, taken_by, taken, taken_level, taken_pairs, taken_mode, Takes, MachineSound, Stepped, machine_left}
 use Rattle.matcher.specs.Trees.{fits_as, view}
@@ -43,9 +43,6 @@ module _ (R : Asked) (ρ : RewriterMeaning) (A : Asking) (l : Level) (ls : List 
     one_eq m None = refl
     one_eq m (Some c) = go (fits_as (term_at R.store c) (term_at R.store l.subpat))
       where
-        later : List Pair → Run
-        later = phase_run R A l (Some one_more) (resume R A ls)
-
         go : (q : Bool) → cond q (runner R A l.subpat ((view R.store).below c) w.after (take l.start acc ++ ends w.offered.from m ∷ []) (phase_run R A l (Some one_more) (resume R A ls)) (resume R A ls)) (phase_run R A l (Some one_more) (resume R A ls) (take l.start acc)) ≡ left R A (taken_level with_one_more (cond q (Some (record { node = m; term = c })) None) ∷ ls) (taken_pairs (take l.start acc) w.offered.from (cond q (Some (record { node = m; term = c })) None)) (taken_mode (cond q (Some (record { node = m; term = c })) None)) w.after
         go true = refl
         go false = refl
@@ -72,9 +69,6 @@ module _ (R : Asked) (ρ : RewriterMeaning) (A : Asking) (l : Level) (ls : List 
     take_mode (Some t) = (omega (arith, length_push (take l.start acc) (ends w.offered.from t.node), length-take l.start acc, size_now R ρ A l ls acc 0 ok), phased.4)
 
 module _ (R : Asked) (ρ : RewriterMeaning) (A : Asking) (M : PatternMatcher) (l : Level) (stacked : Stacked R ρ A (l ∷ stack M)) where
-  pub levels_room : length M.levels < 64
-  levels_room = omega (arith, stacked.0.shallow, size_now R ρ A l (stack M) [] 0 stacked.0, length-reverse M.levels)
-
   pub pairs_room : length (take l.start M.pairs) < 64
   pairs_room = omega (arith, stacked.0.room, size_now R ρ A l (stack M) [] 0 stacked.0, cap_64 R ρ A (stack M) stacked.1, length-take l.start M.pairs)
 

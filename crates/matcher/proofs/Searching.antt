@@ -1,6 +1,7 @@
 -- From a fresh matcher to what the search finds.
 use Rattle.std.proofs.Common.{◌≡◌, ℕ, Bool, true, false, cond, List, [], reverse, Some, None, sym, refl, ap, ◌∙◌, subst, arith}
 use mathlib.Core.Path.{transport}
+use Rattle.std.proofs.lemmas.Bool.{true≢false}
 use Rattle.request.specs.Asked.{Asked}
 use Rattle.host.specs.Meaning.{HostMeaning}
 use Rattle.rewrite.specs.Meaning.{RewriterMeaning}
@@ -14,9 +15,6 @@ use Rattle.matcher.specs.Stepping.{stack, MachineSound, machine_left, Starts, Se
 use Rattle.matcher.specs.Trees.{part, view}
 use Rattle.matcher.proofs.Depth.{size_is}
 use Rattle.matcher.proofs.Running.{runs_alike}
-
-true_false : false ≡ true → ⊥
-true_false e = let z : ◌≡◌ {A = ℕ} 0 1 = cc in omega arith
 
 module _ (R : Asked) (M : PatternMatcher) (b s : ℕ) (new : Starts b s M) where
   empty : stack M ≡ []
@@ -45,9 +43,9 @@ module _ (R : Asked) (M : PatternMatcher) (b s : ℕ) (new : Starts b s M) where
     sought = ap (λ x. seek (view R.store) (asking ρ m ns) (part R s) b x) (sym first) ∙ sym (start_answer (asking ρ m ns) st) ∙ ends
 
     found_if : (x : Mode) (q : Bool) → ρ.finished st' ≡ q → success x q ≡ true → (if_finished ρ (stopped_with x M'.pairs st') ≡ Some M'.pairs) × (ends_in ρ (stopped_with x M'.pairs st') ≡ st')
-    found_if (Down c t) q e f = absurd (true_false f)
+    found_if (Down c t) q e f = absurd (true≢false (sym f))
     found_if Hit q e f = (ap (λ q. cond q (Some M'.pairs) None) (e ∙ f), ap (λ q. cond q st' ρ.first) (e ∙ f))
-    found_if Miss q e f = absurd (true_false f)
+    found_if Miss q e f = absurd (true≢false (sym f))
 
     pub found_at : success M'.mode (ρ₂.finished st') ≡ true → Searched R ρ m ns b s (Some M'.pairs) st'
     found_at done = let some = found_if M'.mode (ρ₂.finished st') finished_as done in record {

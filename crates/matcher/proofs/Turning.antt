@@ -1,5 +1,5 @@
 -- Each turn of the machine leaves the answer as it is and takes one step, over plain lists.
-use Rattle.std.proofs.Common.{◌≡◌, ℕ, suc, ◌<◌, ◌≤◌, Bool, true, false, cond, eqb, List, [], ◌∷◌, reverse, length, sym, refl, ap, ◌∙◌, subst, arith}
+use Rattle.std.proofs.Common.{◌≡◌, ℕ, suc, ◌≤◌, Bool, true, false, cond, eqb, List, [], ◌∷◌, reverse, length, sym, refl, ap, ◌∙◌, subst, arith}
 use mathlib.Core.Path.{transport}
 use Rattle.std.proofs.lemmas.List.{reverse-append}
 use Rattle.std.proofs.lemmas.Bool.{ne_eqb, cond-false}
@@ -18,7 +18,7 @@ use Rattle.matcher.specs.Stepping.{stack, opened_level, Opens, MachineSound, Ste
 use Rattle.matcher.specs.Trees.{Pat, hole, ground, app, places, places_all, part, part_in, all_trees, view}
 use Rattle.matcher.proofs.Depth.{stable_all}
 
-places_some : (p : Pat) → 1 ≤ places p
+pub places_some : (p : Pat) → 1 ≤ places p
 places_some (hole s o) = omega arith
 places_some (ground t) = omega arith
 places_some (app s ps) = omega arith
@@ -37,9 +37,6 @@ module _ (R : Asked) (ρ : RewriterMeaning) (A : Asking) where
   pub cap_64 : (ls : List Level) → Stacked R ρ A ls → cap R ls ≤ 64
   cap_64 [] h = omega arith
   cap_64 (l ∷ ls) h = omega (arith, h.0.room, cap_64 ls h.1)
-
-  pub room_down : (ls : List Level) (acc : List Pair) (b s st : ℕ) → Stacked R ρ A ls → ModeSound R ρ ls acc st (Down b s) → length acc < 64
-  room_down ls acc b s st h k = omega (arith, k.2, cap_64 ls h, places_some (part R s))
 
   -- an application whose children are places
   kids_stable : (s : ℕ) (ts : List ℕ) → Preorder R.store s ts → length ts ≤ 64 → all_trees (part_in R 63) (opened R.store s) ≡ all_trees (part R) (opened R.store s)
@@ -80,9 +77,6 @@ module _ (R : Asked) (ρ : RewriterMeaning) (A : Asking) where
 
     pub down_before : machine_left R A M st ≡ left R A (stack M) M.pairs (Down b s) st
     down_before = ap (λ m. left R A (stack M) M.pairs m st) mode
-
-    pub down_room : length M.pairs < 64
-    down_room = room_down (stack M) M.pairs b s st sound.levels down_here
 
     module _ (ne : b ≡ s → ⊥) (is : part R s ≡ app s (all_trees (part_in R 63) (opened R.store s))) where
       pub opened_turn : (M' : PatternMatcher) (mark : ℕ) → mark ≡ st → Opens R.store M b s mark M' → Stepped R ρ A (machine_left R A M st) M' st

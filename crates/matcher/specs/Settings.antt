@@ -55,13 +55,13 @@ module _ {H R : Type 0} (meaning : H → Tables → HostMeaning) (means : R → 
   abbrev pub StackedOff : Level → PatternMatcher → R → Type 0
   StackedOff l M r = Stacked (asked t.request) (meant_by r) (asking_at meaning t (meant_by r)) (l ∷ stack M)
 
-  -- it is moved, and means the same
+  -- it may have moved, and means the same
   abbrev pub Stays : R → R → Type 0
   Stays r r' = means r' ≡ means r
 
   -- asked from the state before the level
   pub record AsksAt (M : PatternMatcher) (l : Level) (r : R) (M' : PatternMatcher) (r' : R) : Type 0 where
-    pub asks : Asks M l ((meant_by r).ask (returned (meant_by r) l.before) (meant meaning (query_at t l.blame l.subpat))) (state r') M'
+    pub asks : Asks M l (answered meaning (means r) (query_at t l.blame l.subpat) (returned (meant_by r) l.before)) (state r') M'
     pub moves : state r' ≡ (meant_by r).next (returned (meant_by r) l.before) (meant meaning (query_at t l.blame l.subpat))
     pub same : Stays r r'
 

@@ -1,5 +1,6 @@
 -- A part as a tree of its places.
 use Rattle.std.specs.Prelude.{ℕ, zero, suc, ◌+◌, Bool, false, ◌&&◌, List, [], ◌∷◌, Some, None, Option, ◌==◌}
+use Rattle.std.specs.List.{slice_get}
 use Rattle.store.specs.declared.term.HasVar.{HasVar}
 use Rattle.store.specs.declared.term.HasVar.TheVariants.{No, Yes, Unknown}
 use Rattle.store.specs.declared.term.Term.{Term}
@@ -79,6 +80,9 @@ fits_as (Some x) (Some y) = same_kind x.kind y.kind && x.child_ids.len == y.chil
 abbrev pub below_as : Tables → Option Term → List ℕ
 below_as S None = []
 below_as S (Some x) = kids S x
+
+abbrev pub child_at : Tables → ℕ → ℕ → Option ℕ
+child_at S t i = slice_get (below_as S (term_at S t)) i
 
 abbrev pub view : Tables → View
 view S = record { fits = λ b s. fits_as (term_at S b) (term_at S s); below = λ t. below_as S (term_at S t); owner = owner_of S }

@@ -17,6 +17,7 @@ mod turns;
 // What a search finds: at most 64 pairs.
 pub type Pairs = Fixed<Pair, 64>;
 
+// The rewriter is passed along. A machine that it would have to say in each method that it still holds the same one.
 #[derive(Drop)]
 pub struct PatternMatcher {
     levels: Fixed<Level, 64>,

@@ -2,13 +2,13 @@
 ghost use Rattle.std.specs.Prelude.{◌≡◌};
 ghost use Rattle.matcher.specs.Machine.{PlaceIs};
 ghost use Rattle.matcher.specs.Stepping.{taken_by};
-ghost use Rattle.matcher.specs.Trees.{fits_as, below_as};
+ghost use Rattle.matcher.specs.Trees.{fits_as, child_at};
 ghost use Rattle.request.specs.Asked.{asked};
 ghost use Rattle.store.specs.Tables.{tables, term_at, owner_of};
 
 use crate::level::{Place, Taken};
 use request::Request;
-use store::{HasVar, Store, TermKind};
+use store::{HasVar, Store, TermKind, lookup};
 
 // Whether kind and child count agree.
 pub(crate) fn fits(store: Store, blame: usize, subpat: usize) -> bool
@@ -28,10 +28,10 @@ pub(crate) fn taken(store: Store, node: usize, subpat: usize) -> Option<Taken>
     fits(store, term, subpat).then_some(Taken { node, term })
 }
 
-pub(crate) fn below<'a>(store: Store<'a>, term: usize) -> &'a [usize]
-    ensures { result.now ≡ below_as (tables store.entry) (term_at (tables store.entry) term) }
+pub(crate) fn child(store: Store, term: usize, idx: usize) -> Option<usize>
+    ensures { result ≡ child_at (tables store.entry) term idx }
 {
-    store.children(term).unwrap_or(&[])
+    lookup(store.children(term).unwrap_or(&[]), idx)
 }
 
 // A variable that is bound stands for the term that it is bound to.
@@ -42,10 +42,7 @@ pub(crate) fn place(request: Request, subpat: usize) -> Option<Place>
         return Some(Place::Whole(subpat));
     };
     match (term.kind, term.has_var) {
-        (TermKind::Var(v), _) => {
-            let bound = request.bound.bound_term(request.store, v)?;
-            Some(Place::Whole(bound))
-        }
+        (TermKind::Var(v), _) => request.bound.bound_term(request.store, v).map(Place::Whole),
         (TermKind::App(_), HasVar::Yes | HasVar::Unknown) => Some(Place::Opened),
         _ => Some(Place::Whole(subpat)),
     }

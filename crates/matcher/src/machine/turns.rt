@@ -3,19 +3,18 @@ ghost use Rattle.std.specs.Prelude.{◌≡◌, ℕ, ◌<◌, [], ◌∷◌, leng
 ghost use Rattle.matcher.specs.declared.level.Mode.TheVariants.{Down, Miss};
 ghost use Rattle.matcher.specs.Settings.{Sound, StackedOff, AsksAt, Steps, StepsOff, Turned};
 ghost use Rattle.matcher.specs.Stepping.{stack, Settles, Opens, Advances, Takes};
-ghost use Rattle.matcher.specs.Trees.{below_as};
-ghost use Rattle.std.specs.List.{slice_get};
-ghost use Rattle.store.specs.Tables.{tables, term_at};
+ghost use Rattle.matcher.specs.Trees.{child_at};
+ghost use Rattle.store.specs.Tables.{tables};
 
 use super::PatternMatcher;
 use crate::exact::owned_pair;
 use crate::level::{Level, Mode, Place, Taken, Trying};
-use crate::place::{below, fits, place, taken};
+use crate::place::{child, fits, place, taken};
 use crate::setting::Setting;
 use host::Host;
 use request::Pair;
 use rewrite::EqRewriter;
-use store::{Store, lookup};
+use store::Store;
 
 // A level that is gone on with has been taken off the list, so there is room for it. No invariant of the type says that, since it is full
 // at times; so the calls between ask for the room.
@@ -86,23 +85,23 @@ impl PatternMatcher {
     // Goes on after a child that was reached: with the next one, or, behind the last, with what comes after the level.
     fn on_hit(&mut self, store: Store, level: Level)
         requires { length self.old.levels < 64 }
-        ensures { Advances self.old level (slice_get (below_as (tables store.entry) (term_at (tables store.entry) level.subpat)) level.child) (slice_get (below_as (tables store.entry) (term_at (tables store.entry) level.term)) level.child) self.new }
+        ensures { Advances self.old level (child_at (tables store.entry) level.subpat level.child) (child_at (tables store.entry) level.term level.child) self.new }
     {
         let n = level.child;
-        let Some(subpat) = lookup(below(store, level.subpat), n) else {
-            self.mode = Mode::Hit;
-            return;
-        };
-        let Some(blame) = lookup(below(store, level.term), n) else {
-            let _ = self.levels.push(level);
-            self.mode = Mode::Miss;
-            return;
-        };
-        let _ = self.levels.push(Level {
-            child: n + 1,
-            ..level
-        });
-        self.mode = Mode::Down { blame, subpat };
+        match (child(store, level.subpat, n), child(store, level.term, n)) {
+            (None, _) => self.mode = Mode::Hit,
+            (Some(_), None) => {
+                let _ = self.levels.push(level);
+                self.mode = Mode::Miss;
+            }
+            (Some(subpat), Some(blame)) => {
+                let _ = self.levels.push(Level {
+                    child: n + 1,
+                    ..level
+                });
+                self.mode = Mode::Down { blame, subpat };
+            }
+        }
     }
 
     // The term itself has failed: asks for offers, from the state before.
