@@ -50,16 +50,13 @@ basic_known : (S : Tables) (b s n : ℕ) (r : Option Turn) → ((u : Turn) → r
 basic_known S b s n None h e = e
 basic_known S b s n (Some u) h e = cond_both (is_the (owner_of S u.pair.from) b) (suc u.number) s (λ k. nat_le k n ≡ true) (λ _. le-leb (suc u.number) n (h u refl)) (λ _. e)
 
-basic_asked : (ps : List Pair) (S : Tables) (s : ℕ) (q : Query) (o : Offers) → (basic ps S).ask s q ≡ Some o → Sound S q.blame o × (0 < length o.tos)
-basic_asked ps S s q o e = basic_sound S q.blame (upcoming S s (drop s ps)) o (λ u f. (due S s (drop s ps) u f).proper) e
-
 pub basic_rules : (ps : List Pair) (S : Tables) → OfferRules S (basic ps S)
 basic_rules ps S = record {
   first_known = le-leb 0 (length ps) (omega arith);
   next_known = λ s q e. basic_known S q.blame s (length ps) (upcoming S s (drop s ps)) (λ u f. omega (arith, (due S s (drop s ps) u f).early, length-drop s ps, leb-true s (length ps) e)) e;
-  from_owned = λ s q o pr e. (basic_asked ps S s q o e).0.owned;
-  some_offer = λ s q o e. (basic_asked ps S s q o e).1;
-  to_there = λ s q o pr e. (basic_asked ps S s q o e).0.there;
+  from_owned = λ s q o pr e. (basic_sound S q.blame (upcoming S s (drop s ps)) o (λ u f. (due S s (drop s ps) u f).proper) e).0.owned;
+  some_offer = λ s q o e. (basic_sound S q.blame (upcoming S s (drop s ps)) o (λ u f. (due S s (drop s ps) u f).proper) e).1;
+  to_there = λ s q o pr e. (basic_sound S q.blame (upcoming S s (drop s ps)) o (λ u f. (due S s (drop s ps) u f).proper) e).0.there;
 }
 
 -- every pair that ComplexEq reads at b leaves from a node of b
@@ -74,16 +71,13 @@ far_sound S b (p ∷ ps) o all e =
       subst (λ x. 0 < length x.tos) same (omega arith),
     )
 
-complex_asked : (own booked : List Pair) (S : Tables) (s : ℕ) (q : Query) (o : Offers) → (complex own booked S).ask s q ≡ Some o → Sound S q.blame o × (0 < length o.tos)
-complex_asked own booked S s q o e = far_sound S q.blame (ways S (own ++ booked) q.blame) o (filter_passes (λ p. leaves S p q.blame) (flat_map both (own ++ booked))) e
-
 pub complex_rules : (own booked : List Pair) (S : Tables) → OfferRules S (complex own booked S)
 complex_rules own booked S = record {
   first_known = refl;
   next_known = λ s q e. e;
-  from_owned = λ s q o pr e. (complex_asked own booked S s q o e).0.owned;
-  some_offer = λ s q o e. (complex_asked own booked S s q o e).1;
-  to_there = λ s q o pr e. (complex_asked own booked S s q o e).0.there;
+  from_owned = λ s q o pr e. (far_sound S q.blame (ways S (own ++ booked) q.blame) o (filter_passes (λ p. leaves S p q.blame) (flat_map both (own ++ booked))) e).0.owned;
+  some_offer = λ s q o e. (far_sound S q.blame (ways S (own ++ booked) q.blame) o (filter_passes (λ p. leaves S p q.blame) (flat_map both (own ++ booked))) e).1;
+  to_there = λ s q o pr e. (far_sound S q.blame (ways S (own ++ booked) q.blame) o (filter_passes (λ p. leaves S p q.blame) (flat_map both (own ++ booked))) e).0.there;
 }
 
 pub complex_steady : (own booked : List Pair) (S : Tables) → Steady (complex own booked S)
@@ -139,23 +133,22 @@ module _ (S : Tables) (ρ : RewriterMeaning) (below : OfferRules S ρ) where
   ask_sound : (s : ℕ) (q : Query) (o : Offers) → Proper S q → ρ.ask s q ≡ Some o → Sound S q.blame o
   ask_sound s q o pr e = record { owned = below.from_owned s q o pr e; there = below.to_there s q o pr e }
 
-  custom_sound : (s : ℕ) (q : Query) (o : Offers) → Proper S q → (custom ρ).ask s q ≡ Some o → Sound S q.blame o
-  custom_sound s q o pr e = own_sound S q (same_ends q) (ρ.ask s q) o pr (same_join q (live_ends q) (live_join q)) (ask_sound s q o pr) e
-
   pub custom_rules : OfferRules S (custom ρ)
   custom_rules = record {
     first_known = below.first_known;
     next_known = λ s q e. own_known ρ (same_ends q) s (ρ.next s q) e (below.next_known s q e);
-    from_owned = λ s q o pr e. (custom_sound s q o pr e).owned;
+    from_owned = λ s q o pr e. (own_sound S q (same_ends q) (ρ.ask s q) o pr (same_join q (live_ends q) (live_join q)) (ask_sound s q o pr) e).owned;
     some_offer = λ s q o e. own_some (same_ends q) (ρ.ask s q) o (below.some_offer s q o) e;
-    to_there = λ s q o pr e. (custom_sound s q o pr e).there;
+    to_there = λ s q o pr e. (own_sound S q (same_ends q) (ρ.ask s q) o pr (same_join q (live_ends q) (live_join q)) (ask_sound s q o pr) e).there;
   }
 
-  nodes_sound : (q : Query) (n : ℕ) (ns : List ℕ) (o : Offers) → owner_of S n ≡ Some q.blame → All (λ m. m < length S.nodes) ns → nodes_from n ns ≡ Some o → Sound S q.blame o
+  nodes_sound : (q : Query) (n : ℕ) (ns : List ℕ) (o : Offers) → owner_of S n ≡ Some q.blame → All (λ m. m < length S.nodes) ns → nodes_from n ns ≡ Some o → Sound S q.blame o × (0 < length o.tos)
   nodes_sound q n [] o owned all e = cc
-  nodes_sound q n (a ∷ ns) o owned all e = subst (Sound S q.blame) (same_Some _ o e) (record { owned = owned; there = all })
+  nodes_sound q n (a ∷ ns) o owned all e =
+      let same = same_Some _ o e in
+      (subst (Sound S q.blame) same (record { owned = owned; there = all }), subst (λ x. 0 < length x.tos) same (omega arith))
 
-  aside_sound : (q : Query) (a b : Option ℕ) (o : Offers) → Proper S q → q.host.live q.blame ≡ a → aside_as a b q.aside ≡ Some o → Sound S q.blame o
+  aside_sound : (q : Query) (a b : Option ℕ) (o : Offers) → Proper S q → q.host.live q.blame ≡ a → aside_as a b q.aside ≡ Some o → Sound S q.blame o × (0 < length o.tos)
   aside_sound q None b o pr l e = cc
   aside_sound q (Some n) None o pr l e = nodes_sound q n q.aside o (pr.host_ruled.live_owned q.blame n l) pr.aside_there e
   aside_sound q (Some n) (Some m) o pr l e = cc
@@ -175,7 +168,7 @@ module _ (S : Tables) (ρ : RewriterMeaning) (below : OfferRules S ρ) where
 
   force_sound : (s : ℕ) (q : Query) (o : Offers) → Proper S q → (force ρ).ask s q ≡ Some o → Sound S q.blame o
   force_sound s q o pr e = own_sound S q (live_ends q) (below_or (ρ.ask s q) (aside_offer q)) o pr (live_join q)
-      (or_sound q (ρ.ask s q) (aside_offer q) o (Sound S q.blame) (ask_sound s q o pr) (aside_sound q (q.host.live q.blame) (q.host.live q.subpat) o pr refl)) e
+      (or_sound q (ρ.ask s q) (aside_offer q) o (Sound S q.blame) (ask_sound s q o pr) (λ f. (aside_sound q (q.host.live q.blame) (q.host.live q.subpat) o pr refl f).0)) e
 
   pub force_rules : OfferRules S (force ρ)
   force_rules = record {
