@@ -60,6 +60,9 @@ basic_rules ps S = record {
 }
 
 -- every pair that ComplexEq reads at b leaves from a node of b
+all_ways : (S : Tables) (ps : List Pair) (b : ℕ) → All (λ x. leaves S x b ≡ true) (ways S ps b)
+all_ways S ps b = filter_passes (λ p. leaves S p b) (flat_map both ps)
+
 far_sound : (S : Tables) (b : ℕ) (ps : List Pair) (o : Offers) → All (λ x. leaves S x b ≡ true) ps → far_ends ps ≡ Some o → Sound S b o × (0 < length o.tos)
 far_sound S b [] o all e = cc
 far_sound S b (p ∷ ps) o all e =
@@ -75,9 +78,9 @@ pub complex_rules : (own booked : List Pair) (S : Tables) → OfferRules S (comp
 complex_rules own booked S = record {
   first_known = refl;
   next_known = λ s q e. e;
-  from_owned = λ s q o pr e. (far_sound S q.blame (ways S (own ++ booked) q.blame) o (filter_passes (λ p. leaves S p q.blame) (flat_map both (own ++ booked))) e).0.owned;
-  some_offer = λ s q o e. (far_sound S q.blame (ways S (own ++ booked) q.blame) o (filter_passes (λ p. leaves S p q.blame) (flat_map both (own ++ booked))) e).1;
-  to_there = λ s q o pr e. (far_sound S q.blame (ways S (own ++ booked) q.blame) o (filter_passes (λ p. leaves S p q.blame) (flat_map both (own ++ booked))) e).0.there;
+  from_owned = λ s q o pr e. (far_sound S q.blame (ways S (own ++ booked) q.blame) o (all_ways S (own ++ booked) q.blame) e).0.owned;
+  some_offer = λ s q o e. (far_sound S q.blame (ways S (own ++ booked) q.blame) o (all_ways S (own ++ booked) q.blame) e).1;
+  to_there = λ s q o pr e. (far_sound S q.blame (ways S (own ++ booked) q.blame) o (all_ways S (own ++ booked) q.blame) e).0.there;
 }
 
 pub complex_steady : (own booked : List Pair) (S : Tables) → Steady (complex own booked S)
