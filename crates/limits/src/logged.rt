@@ -65,6 +65,7 @@ fn pair_past_the_limit(rt: &HostRuntime) -> anyhow::Result<()> {
 }
 
 // Makes the small request one at which the grounds from this one to the sixth hold.
+// The ground is a number and no refusal, since it is printed, and 7 is none.
 fn spoil(heap: Global, t: &mut Tables, first: usize) -> Result<(), AllocError> {
     t.entries.clear();
     t.entry(if first <= 6 { 9 } else { 0 }, span(0, 0))?;

@@ -133,6 +133,7 @@ impl Store<'_> {
     fn is_named_before(self, symbol: usize) -> bool
         ensures { Decides result (NamedBefore (tables self.entry) symbol) }
     {
+        // A match: what `is_some_and` ensures splits no case in the proof.
         match self.name(symbol) {
             Some(name) => self.is_any_named(&self.symbols[..symbol], name),
             None => false,
@@ -152,6 +153,7 @@ impl Store<'_> {
     fn of_children(self, kids: &[usize], missing: HasVar) -> HasVar
         ensures { result ≡ of_children (map (recorded_or missing (tables self.entry)) kids.now) }
     {
+        // A loop: the proof of a `fold` with a closure that reads the store does not close.
         let mut found = HasVar::No;
         for c in kids {
             found = found.with(self.has_var_or(*c, missing));
