@@ -4,9 +4,6 @@ use Rattle.std.proofs.lemmas.List.{drop_more, take_more, take_all}
 use Rattle.store.specs.Tables.{Tables}
 use Rattle.request.specs.Places.{Preorder, Preorders, place, none, more, opened}
 
-pub some_place : {S : Tables} {t : ℕ} {ts : List ℕ} → Preorder S t ts → 0 < length ts
-some_place (place p) = omega arith
-
 pub longer : (old pushed now us : List ℕ) (t : ℕ) → pushed ≡ old ++ t ∷ [] → now ≡ pushed ++ us → length old < length now
 longer old pushed now us t e f = omega (arith, ap length e ∙ length-append old (t ∷ []), ap length f ∙ length-append pushed us)
 

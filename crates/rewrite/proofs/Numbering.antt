@@ -1,20 +1,19 @@
 -- Pairs by their number: the next one, and those that are read both ways.
-use Rattle.std.proofs.Common.{◌≡◌, ℕ, zero, suc, ◌+◌, ◌<◌, ◌≤◌, true, false, List, [], ◌∷◌, ◌++◌, length, get_or, is_some, Some, None, Option, sym, refl, ap, ◌∙◌, arith}
+use Rattle.std.proofs.Common.{◌≡◌, ℕ, zero, suc, ◌+◌, ◌<◌, ◌≤◌, true, false, List, [], ◌∷◌, ◌++◌, length, get_or, Some, None, sym, refl, ap, ◌∙◌, arith}
 use lib.ListN.{length-map}
 use Rattle.std.specs.List.{slice_get, filter, flat_map, count_by, position, position_or_len}
 use Rattle.std.proofs.lemmas.List.Concat.{flat_map-append}
 use Rattle.std.proofs.lemmas.List.Elements.{filter-append}
 use Rattle.std.proofs.lemmas.List.Sums.{length-filter, fails_before_first}
 use Rattle.std.proofs.lemmas.Grind.{common_steps}
-use Rattle.std.specs.Option.{option_map}
 use Rattle.std.proofs.lemmas.Bool.{cond-true, cond-false}
 use Rattle.std.proofs.lemmas.List.Quantifiers.{position-Some}
 use Rattle.store.specs.Tables.{Tables}
-use Rattle.std.proofs.lemmas.Option.{same_Some, slice_get-map}
+use Rattle.std.proofs.lemmas.Option.{same_Some}
 use Rattle.request.specs.declared.kinds.Pair.{Pair}
 use Rattle.request.specs.Pairs.{is_proper}
-use Rattle.rewrite.specs.Kinds.{upcoming, leaves, turned, both, ways, far_ends, own_or, below_or, aside_as, from_of}
-use Rattle.rewrite.specs.Meaning.{Offers, counted, offer_at}
+use Rattle.rewrite.specs.Kinds.{upcoming, leaves, turned, both, ways, far_ends}
+use Rattle.rewrite.specs.Meaning.{counted}
 
 -- the pair whose turn it is, by its place among those that are left
 module _ (S : Tables) (d : Pair) where
@@ -45,30 +44,6 @@ ways_long S b ps = length-filter (λ p. leaves S p b) (flat_map both ps) ∙ go 
     go [] = refl
     go (p ∷ ps) = let h = go ps in grind (arith, common_steps, h)
 
-pub far_at : (ps : List Pair) (i : ℕ) → offer_at (far_ends ps) i ≡ option_map (λ p. p.to) (slice_get ps i)
-far_at [] i = refl
-far_at (p ∷ ps) i = slice_get-map (λ x. x.to) (p ∷ ps) i
-
 pub far_some : (ps : List Pair) (p : Pair) → slice_get ps 0 ≡ Some p → counted (far_ends ps) ≡ Some (record { from = p.from; count = length ps })
 far_some [] p e = cc
 far_some (x ∷ ps) p e = let same = same_Some x p e in λ i. Some (record { from = (same i).from; count = length-map (x ∷ ps) (λ y. y.to) i })
-
--- an offer of ForceEq where neither its own pair nor what is below offers
-pub low_none : (o : Option Offers) → ((x : Offers) → o ≡ Some x → 0 < length x.tos) → is_some (offer_at o 0) ≡ false → o ≡ None
-low_none None h e = refl
-low_none (Some x) h e = first x.tos (h x refl) e
-  where
-    first : (ns : List ℕ) → 0 < length ns → is_some (slice_get ns 0) ≡ false → Some x ≡ None
-    first [] l f = absurd (omega arith)
-    first (n ∷ ns) l f = cc
-
-pub only_aside : (r : Option Pair) (o x : Option Offers) → None ≡ r → o ≡ None → own_or r (below_or o x) ≡ x
-only_aside None None x e f = refl
-only_aside None (Some y) x e f = cc
-only_aside (Some p) o x e f = cc
-
-pub aside_at : (a b : Option ℕ) (ns : List ℕ) (i n : ℕ) → Some n ≡ from_of (aside_as a b ns) → offer_at (aside_as a b ns) i ≡ slice_get ns i
-aside_at None b ns i n e = cc
-aside_at (Some m) None [] i n e = refl
-aside_at (Some m) None (x ∷ ns) i n e = refl
-aside_at (Some m) (Some k) ns i n e = cc

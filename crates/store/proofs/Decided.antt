@@ -33,9 +33,6 @@ Below {X} P xs i = (k : ℕ) → k < i → (x : X) → slice_get xs k ≡ Some x
 abbrev pub Each : {X : Type 0} → (ℕ → X → Type 0) → List X → Type 0
 Each {X} P xs = (k : ℕ) (x : X) → slice_get xs k ≡ Some x → P k x
 
-pub below_none : {X : Type 0} (P : ℕ → X → Type 0) (xs : List X) → Below P xs 0
-below_none P xs k h = absurd (omega arith)
-
 pub below_next : {X : Type 0} (P : ℕ → X → Type 0) (xs : List X) (i : ℕ) (y : X) → slice_get xs i ≡ Some y → P i y → Below P xs i → Below P xs (i + 1)
 below_next P xs i y e p below = below_more _ _ below (λ x f. subst (P i) (same_some _ y x e f) p)
 

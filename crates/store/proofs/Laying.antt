@@ -1,8 +1,6 @@
 -- Spans read in one pass: the last offset and the furthest end so far are all that the rest has to be held to.
-use Rattle.std.proofs.Common.{◌≡◌, ℕ, zero, suc, ◌+◌, ◌<◌, ◌≤◌, cond, ltb, List, [], ◌∷◌, map, length, get_or, drop, Some, None, sym, refl, ap, ◌∙◌, subst, ⊎_elim, arith}
-use mathlib.Core.Path.{transport}
+use Rattle.std.proofs.Common.{◌≡◌, ℕ, zero, suc, ◌+◌, ◌<◌, ◌≤◌, cond, ltb, List, [], ◌∷◌, Some, None, sym, refl, subst, ⊎_elim, arith}
 use Rattle.std.specs.List.{slice_get}
-use Rattle.std.proofs.lemmas.List.{drop_more, drop_all}
 use Rattle.std.proofs.lemmas.Bool.{cases_lt, lt-ltb, le-ltb, cond-true, cond-false}
 use Rattle.store.specs.declared.span.Span.{Span}
 use Rattle.store.specs.Spans.{Laid, Covers, Fits}
@@ -112,20 +110,3 @@ pub record Settles (spans : List Span) (size last end : ℕ) (left : List Span) 
 
 pub begins : (spans : List Span) (size : ℕ) → Settles spans size 0 0 spans
 begins spans size = record { whole = reads_laid size 0 0 spans; part = laid_reads size spans }
-
-pub one_more : (spans : List Span) (size last end at next : ℕ) (s : Span) (ss : List Span) → Settles spans size last end (s ∷ ss) → Fits size last end s → at ≡ s.offset → next ≡ further s end → Settles spans size at next ss
-one_more spans size last end at next s ss h f p q =
-    let same : Reads size s.offset (further s end) ss ≡ Reads size at next ss = ap (λ n. Reads size n (further s end) ss) (sym p) ∙ ap (λ n. Reads size at n ss) (sym q) in
-    record {
-      whole = λ r. h.whole (f, transport (sym same) r);
-      part = λ l. transport same (h.part l).1;
-    }
-
--- the item just read gives the first of the spans that are left
-pub next_read : {X : Type 0} (lies : X → Span) (spans : List Span) (size last end : ℕ) (xs : List X) (i : ℕ) (x : X) (s : Span) → i < length xs → x ≡ get_or xs i x → s ≡ lies x → Settles spans size last end (map lies (drop i xs)) → Settles spans size last end (s ∷ map lies (drop (i + 1) xs))
-next_read lies spans size last end xs i x s h e f settled =
-    subst (Settles spans size last end) (ap (map lies) (drop_more xs i x h) ∙ ap (λ y. lies y ∷ map lies (drop (i + 1) xs)) (sym e) ∙ ap (λ y. y ∷ map lies (drop (i + 1) xs)) (sym f)) settled
-
-pub none_left : {X : Type 0} (lies : X → Span) (spans : List Span) (size last end : ℕ) (xs : List X) (i : ℕ) → length xs ≤ i → Settles spans size last end (map lies (drop i xs)) → Laid spans size
-none_left lies spans size last end xs i h settled =
-    (subst (λ l. Settles spans size last end (map lies l)) (drop_all i xs h) settled).whole tt
