@@ -29,10 +29,10 @@ module _ (R : Asked) (ρ : RewriterMeaning) (A : Asking) (l : Level) (ls : List 
     phased = subst (PhaseSound ρ A l) p ok.phased
 
     abbrev pub one_more : Trying
-    one_more = record { after = w.after; offered = w.offered; tried = w.tried + 1 }
+    one_more = record w { tried = w.tried + 1 }
 
     abbrev pub with_one_more : Level
-    with_one_more = record { blame = l.blame; subpat = l.subpat; term = l.term; child = l.child; before = l.before; phase = Some one_more; start = l.start }
+    with_one_more = record l { phase = Some one_more }
 
     offered_eq : (st : ℕ) → left R A (l ∷ ls) acc Miss st ≡ offers_run (view R.store) A (runner R A l.subpat) l.subpat w.offered.from (drop w.tried phased.0) w.after l.start (resume R A ls) acc
     offered_eq st =

@@ -45,7 +45,7 @@ pub record Opens (S : Tables) (M : PatternMatcher) (b s mark : ℕ) (M' : Patter
 
 -- the level with its next child
 abbrev pub next_child : Level → Level
-next_child l = record { blame = l.blame; subpat = l.subpat; term = l.term; child = l.child + 1; before = l.before; phase = l.phase; start = l.start }
+next_child l = record l { child = l.child + 1 }
 
 -- after a child: which level is kept, and what comes next, by the next child's pattern term and term
 abbrev pub kept_level : Level → Option ℕ → Option ℕ → List Level
@@ -66,7 +66,7 @@ pub record Advances (M : PatternMatcher) (l : Level) (s b : Option ℕ) (M' : Pa
 -- after a query: the level that goes through the offers, if there are any
 abbrev pub asked_level : Level → Option Offers → ℕ → List Level
 asked_level l None after = []
-asked_level l (Some o) after = record { blame = l.blame; subpat = l.subpat; term = l.term; child = l.child; before = l.before; phase = Some (record { after = after; offered = record { from = o.from; count = length o.tos }; tried = 0 }); start = l.start } ∷ []
+asked_level l (Some o) after = record l { phase = Some (record { after = after; offered = record { from = o.from; count = length o.tos }; tried = 0 }) } ∷ []
 
 pub record Asks (M : PatternMatcher) (l : Level) (a : Option Offers) (after : ℕ) (M' : PatternMatcher) : Type 0 where
   pub levels : M'.levels ≡ M.levels ++ asked_level l a after
@@ -84,7 +84,7 @@ taken S s (Some n) = taken_by S s n (owner_of S n)
 
 abbrev pub taken_level : Level → Option Taken → Level
 taken_level l None = l
-taken_level l (Some t) = record { blame = l.blame; subpat = l.subpat; term = t.term; child = 0; before = l.before; phase = l.phase; start = l.start }
+taken_level l (Some t) = record l { term = t.term; child = 0 }
 
 abbrev pub taken_pairs : List Pair → ℕ → Option Taken → List Pair
 taken_pairs acc n None = acc
