@@ -7,7 +7,7 @@ use crate::host_text::{Class, ClassKind, Live};
 use host::{Partition, TableHost};
 use std::alloc::{AllocError, Global};
 
-// What stands where no line gives a number. No node has it.
+// What stands where no line gives a number. No node has it; a host reads plain numbers, so none is one too.
 const NO_NODE: usize = usize::MAX;
 
 // The live node of each term.

@@ -92,7 +92,7 @@ pub fn no_more(mut words: Words) -> Result<(), Expected> {
     }
 }
 
-// A line of a request.
+// A line of a request. It is data and no closure, so that it is read whole before it changes anything.
 #[derive(Drop)]
 pub enum Item<'a> {
     Symbol(&'a [u8]),

@@ -8,6 +8,7 @@ use std::alloc::{AllocError, Global};
 use std::marker::Model;
 use store::{ENode, HasVar, Span, Store, Term, TermKind};
 
+// `limits` keeps like tables: the two are programs, and a library for what they share would be longer than it.
 #[derive(Drop)]
 pub struct StoreText {
     terms: Vec<Term>,

@@ -15,10 +15,10 @@ use std::alloc::{AllocError, Global};
 use std::fmt;
 use store::Span;
 
-// No term has this number.
+// No term has this number. A request's pattern is a plain number, so none is one too.
 const NO_TERM: usize = usize::MAX;
 
-// What the pattern's variables are bound to. A request borrows its bindings, so what is read is held in an enum of its own.
+// What the pattern's variables are bound to. A request borrows its bindings, so a program holds them in an enum of its own.
 #[derive(Drop)]
 pub enum Bindings {
     Terms(Vec<TermIdx>),

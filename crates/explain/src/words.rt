@@ -87,6 +87,6 @@ impl<'a> Iterator for Words<'a> {
     fn next(&mut self) -> Option<&'a [u8]> {
         let (word, after) = first_word(self.rest.trim_ascii_start());
         self.rest = after;
-        if word.is_empty() { None } else { Some(word) }
+        (!word.is_empty()).then_some(word)
     }
 }

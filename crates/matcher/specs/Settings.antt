@@ -1,5 +1,5 @@
 -- What a search does at a setting, for hosts and rewriters of any two types.
-use Rattle.std.specs.Prelude.{◌≡◌, ℕ, Bool, true, false, List, ◌∷◌, Option}
+use Rattle.std.specs.Prelude.{◌≡◌, ℕ, ◌≤◌, Bool, true, false, List, ◌∷◌, length, Option}
 use Rattle.store.specs.Tables.{Tables, tables}
 use Rattle.request.specs.declared.kinds.Pair.{Pair}
 use Rattle.request.specs.Asked.{asked}
@@ -8,11 +8,13 @@ use Rattle.rewrite.specs.declared.query.Query.{Query}
 use Rattle.rewrite.specs.Meaning.{Offers, RewriterMeaning, meant, returned, offer_at}
 use Rattle.matcher.specs.declared.level.Level.{Level}
 use Rattle.matcher.specs.declared.level.Mode.{Mode}
+use Rattle.matcher.specs.declared.level.Mode.TheVariants.{Hit}
 use Rattle.matcher.specs.declared.machine.PatternMatcher.{PatternMatcher}
 use Rattle.matcher.specs.declared.setting.Setting.{Setting}
 use Rattle.matcher.specs.Machine.{owned_in, Stacked, left}
 use Rattle.matcher.specs.Running.{Run}
-use Rattle.matcher.specs.Search.{Asking, Hit, asking, if_owned, by_offers}
+use Rattle.matcher.specs.Search as found
+use Rattle.matcher.specs.Search.{Asking, asking, if_owned, by_offers}
 use Rattle.matcher.specs.Stepping.{stack, Asks, MachineSound, Stepped, Stopped, machine_left, stopped_with, Searched}
 use Rattle.matcher.specs.Trees.{view}
 
@@ -32,7 +34,7 @@ module _ {H : Type 0} (meaning : H → Tables → HostMeaning) (means : Tables �
   owned_at i = owned_in (view (tables q.store)) q.subpat (offer_at answered i)
 
   -- what is found by these offers, with the rewriter left in a state
-  abbrev pub found_owned : ℕ → Option Hit
+  abbrev pub found_owned : ℕ → Option found.Hit
   found_owned st' = by_offers (if_owned (view (tables q.store)) q.subpat) answered st'
 
 module _ {H : Type 0} (meaning : H → Tables → HostMeaning) (t : Setting H) where
@@ -94,7 +96,8 @@ module _ {H R : Type 0} (meaning : H → Tables → HostMeaning) (means : R → 
     pub answer : (left_at r M r).answer ≡ (left_at r M' r').answer
     pub same : Stays r r'
 
-  -- run to its end, it gives the answer that it had to give
+  -- run to its end, it gives the answer that it had to give, of at most 64 pairs
   pub record Ends (M : PatternMatcher) (r : R) (M' : PatternMatcher) (r' : R) : Type 0 where
     pub ends : (left_at r M r).answer ≡ stopped_with M'.mode M'.pairs (state r')
+    pub few : M'.mode ≡ Hit → length M'.pairs ≤ 64
     pub same : Stays r r'

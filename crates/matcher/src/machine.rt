@@ -1,5 +1,6 @@
-// The search as a machine: its levels, the pairs that lie there, and what it does next.
-ghost use Rattle.std.specs.Prelude.{◌≡◌};
+// The search as a machine: its levels, the pairs that lie there, and what it does next. It has fixed memory and does not call itself,
+// so what it does next is a mode and no closure.
+ghost use Rattle.std.specs.Prelude.{◌≡◌, ◌≤◌, length, IfSome};
 ghost use Rattle.matcher.specs.Laws.{FindsFirst, MoreFinds, CustomFinds, ForceFinds, FoundLeads};
 ghost use Rattle.matcher.specs.Settings.{Sound, Ends, SearchedAt};
 ghost use Rattle.matcher.specs.Stepping.{Starts, success};
@@ -17,7 +18,7 @@ mod turns;
 // What a search finds: at most 64 pairs.
 pub type Pairs = Fixed<Pair, 64>;
 
-// The rewriter is passed along. A machine that it would have to say in each method that it still holds the same one.
+// The rewriter is passed along. A machine that held it would have to say in each method that it is still the same one.
 #[derive(Drop)]
 pub struct PatternMatcher {
     levels: Fixed<Level, 64>,
@@ -60,6 +61,7 @@ impl PatternMatcher {
         subpat: usize,
     ) -> Option<Pairs>
         ensures searched { SearchedAt H.Host.meaning setting.now (R.EqRewriter.rewriter rewriter.old) blame subpat result (R.EqRewriter.state rewriter.new) }
+        ensures few { IfSome result (λ pairs. length pairs ≤ 64) }
         ensures same { R.EqRewriter.rewriter rewriter.new ≡ R.EqRewriter.rewriter rewriter.old }
     {
         rewriter.reset();
@@ -81,6 +83,7 @@ impl PatternMatcher {
         subpat: usize,
     ) -> Option<Pairs>
         ensures searched { SearchedAt H.Host.meaning setting.now (R.EqRewriter.rewriter rewriter.old) blame subpat result (R.EqRewriter.state rewriter.new) }
+        ensures few { IfSome result (λ pairs. length pairs ≤ 64) }
         ensures same { R.EqRewriter.rewriter rewriter.new ≡ R.EqRewriter.rewriter rewriter.old }
         ensures finds_first { FindsFirst }
         ensures more_finds { MoreFinds }

@@ -14,6 +14,7 @@ use store::{HasVar, Store, TermKind, lookup};
 pub(crate) fn fits(store: Store, blame: usize, subpat: usize) -> bool
     ensures { result ≡ fits_as (term_at (tables store.entry) blame) (term_at (tables store.entry) subpat) }
 {
+    // A match: what `is_some_and` ensures splits no case in the proof.
     match (store.term(blame), store.term(subpat)) {
         (Some(b), Some(s)) => b.can_match(s),
         _ => false,

@@ -51,8 +51,7 @@ impl Request<'_> {
         self.places(part).is_some()
     }
 
-    // The loops over parts, entries and pairs are three: a part may be judged only where the store keeps its rules and has the part, and a
-    // closure handed to one loop for all would have to be callable anywhere.
+    // The loops over parts, entries and pairs are three: one for all, handed a test and a culprit, needs longer clauses than it saves.
     fn check_parts(self) -> Result<(), Fault>
         requires { StoreRules (asked self).store }
         ensures { MatchResult result (λ _. EachPart (asked self.entry)) (Faulted (asked self.entry) BadPart) }
@@ -110,6 +109,7 @@ impl Request<'_> {
         if self.bound.count() > MOST_BINDINGS {
             return Err(fault);
         }
+        // A loop and no `all`: a part may be asked only if it keeps its rules, and a closure would have to say so.
         for part in self.parts() {
             if !self.is_part_bound(*part) {
                 return Err(fault);

@@ -60,6 +60,7 @@ impl MatchKind<'_> {
     {
         match self {
             MatchKind::Terms(items) => lookup(items, var).map(|item| item.0),
+            // No `and_then`: its proof does not close.
             MatchKind::Nodes(items) => {
                 let item = lookup(items, var)?;
                 store.owner(item.0)

@@ -22,6 +22,7 @@ pub trait EqRewriter {
     fn forbid_dups(&self) -> bool
         ensures { (S : Tables) → result ≡ (rewriter self.now S).forbids };
 
+    // What moves it says for itself that it means the same as before.
     fn reset(&mut self)
         ensures first { (S : Tables) → state self.new ≡ (rewriter self.old S).first }
         ensures same { rewriter self.new ≡ rewriter self.old };

@@ -29,7 +29,8 @@ pub(crate) fn both(pair: Pair) -> [Pair; 2]
     [pair, turned(pair)]
 }
 
-// The ways are counted in two readings and not over the chain of both, since the count of a `flat_map` has no bound in a proof.
+// Two counts, one for each reading: the count of a `flat_map` over both has no bound in a proof, and a closure for the reading needs a
+// clause on what it gives.
 fn count_along(store: Store, pairs: &[Pair], term: usize) -> usize
     ensures { result ≡ count_by (λ p. leaves (tables store.entry) p term) pairs.now }
 {

@@ -32,6 +32,7 @@ pub enum Layer {
     Host,
 }
 
+// `Nothing` is a culprit of its own and not an `Option`, so that a fault is shown and compared as one type.
 #[derive(Clone, Copy, PartialEq, Eq, Debug)]
 pub enum Culprit {
     Nothing,

@@ -1,5 +1,5 @@
-// A list of at most N items that lies in an array: the core has fixed memory and no allocator. The crate arrayvec would do, but its `new`
-// and this type's differ, and this type's calls are public.
+// A list of at most N items that lies in an array: the core has fixed memory and no allocator.
+// The crate arrayvec has such a list too, but no `new` that is given what fills the cells, and this type's calls are public.
 ghost use Rattle.std.specs.Prelude.{◌≡◌, ◌<◌, ◌≤◌, [], ◌∷◌, ◌++◌, length, take, MatchOption, MatchResult};
 ghost use Rattle.std.specs.List.{slice_get};
 
@@ -51,13 +51,15 @@ impl<T: Copy, const N: usize> Fixed<T, N> {
     }
 
     pub fn count(&self) -> usize
-        ensures { result ≡ length self.now }
+        ensures count { result ≡ length self.now }
+        ensures few { length self.now ≤ N }
     {
         self.len
     }
 
     pub fn as_slice(&self) -> &[T]
-        ensures { result.now ≡ self.now }
+        ensures items { result.now ≡ self.now }
+        ensures few { length self.now ≤ N }
     {
         &self.items[..self.len]
     }

@@ -62,6 +62,7 @@ impl Span {
 fn are_laid<T: Spanned>(items: &[T], size: usize) -> bool
     ensures { Decides result (Laid (map T.Spanned.lies items.now) size) }
 {
+    // A loop: the last offset and the furthest end go along, and it ends at the first span that does not fit.
     let mut last = 0;
     let mut end = 0;
     for item in items {

@@ -1,5 +1,5 @@
-// A store: the tables of terms, nodes and symbols that a request speaks of. Items name one another by number and not by a `Box`, since the
-// tables are what is given and checked, terms are shared, and the core has no heap.
+// A store: the tables of terms, nodes and symbols that a request speaks of.
+// Items name one another by number: the tables are what is given and checked, terms are shared, and the core has no heap.
 ghost use Rattle.std.specs.Prelude.{◌≡◌, Some, codes, Decides};
 ghost use Rattle.std.specs.List.{slice_get};
 ghost use Rattle.std.specs.Option.{option_map};

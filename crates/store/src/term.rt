@@ -11,8 +11,8 @@ pub enum TermKind {
     Quant(usize),
 }
 
-// Whether a term holds a free variable; unknown where it holds a quantifier, which may bind it. Three words say it more plainly than an
-// `Option<bool>`, since unknown is an answer and not a missing one.
+// Whether a term holds a free variable; unknown where it holds a quantifier, which may bind it.
+// Three words say it more plainly than an `Option<bool>`, since unknown is an answer and not a missing one.
 #[derive(Clone, Copy, PartialEq, Eq, Debug)]
 pub enum HasVar {
     No,

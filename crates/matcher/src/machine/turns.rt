@@ -166,14 +166,14 @@ impl PatternMatcher {
         rewriter.back(trying.after);
         self.pairs.truncate(level.start);
         let query = setting.query(level.blame, level.subpat);
-        let taken = rewriter
+        let offer = rewriter
             .possible_rewrite(&query, level.before, trying.tried)
             .and_then(|node| taken(query.store, node, level.subpat));
         let phase = Some(Trying {
             tried: trying.tried + 1,
             ..trying
         });
-        self.take(Level { phase, ..level }, trying.offered.from, taken);
+        self.take(Level { phase, ..level }, trying.offered.from, offer);
     }
 
     // One turn; false where nothing is left to do.

@@ -17,20 +17,20 @@ returns-in_err-permit g c =
     refused_permit _ _ _ _ _ _ _ (c.are_ends.ensures.0 c.if-not-are_ends.false) c.in_err-permit.ensures p.1 p.2
 
 pub returns-in-Some : goal.returns-in-Some
-returns-in-Some g c = known (c.are_ends.ensures.0 c.if-not-are_ends.false) c.in_ok-permit.ensures (subst (λ l. slice_get l c.in-Some.k ≡ Some c.args.ends) c.as_slice.ensures c.in-Some.ensures)
+returns-in-Some g c = known (c.are_ends.ensures.0 c.if-not-are_ends.false) c.in_ok-permit.ensures (subst (λ l. slice_get l c.in-Some.k ≡ Some c.args.ends) c.as_slice.ensures.items c.in-Some.ensures)
 
 pub returns-in-Ok : goal.returns-in-Ok
 returns-in-Ok g c =
     let m = tabled g.P.Partition.joins (tables c.args.store) c.args.self.now in
     let pushed = c.in-Ok.ensures in
     made_new _ m _ _ _ _ (c.are_ends.ensures.0 c.if-not-are_ends.false) c.in_ok-permit.ensures
-    (λ k e. c.in_default.ensures k (ap (λ l. slice_get l k) c.as_slice.ensures ∙ e))
-    (omega (arith, pushed.1)) c.count-k.ensures (ap (with_listed m) pushed.0)
+    (λ k e. c.in_default.ensures k (ap (λ l. slice_get l k) c.as_slice.ensures.items ∙ e))
+    (omega (arith, pushed.1)) c.count-k.ensures.count (ap (with_listed m) pushed.0)
 
 pub returns-in-Err : goal.returns-in-Err
 returns-in-Err g c =
     let m = tabled g.P.Partition.joins (tables c.args.store) c.args.self.now in
     let stuck = c.in-Err.ensures in
     refused_full _ m _ _ _ _ (c.are_ends.ensures.0 c.if-not-are_ends.false) c.in_ok-permit.ensures
-    (λ k e. c.in_default.ensures k (ap (λ l. slice_get l k) c.as_slice.ensures ∙ e))
+    (λ k e. c.in_default.ensures k (ap (λ l. slice_get l k) c.as_slice.ensures.items ∙ e))
     (omega (arith, stuck.0)) c.refused-in-Err.ensures (ap (with_listed m) stuck.1)

@@ -15,7 +15,7 @@ returns g c =
     let t = c.args.setting.now in
     let l = c.args.level in
     let S = tables c.query-query.result.store in
-    let is : c.and_then-taken.result ≡ taken S l.subpat c.possible_rewrite.result = search rules in
+    let is : c.and_then-offer.result ≡ taken S l.subpat c.possible_rewrite.result = search rules in
     let here = is ∙ ap (taken S l.subpat) c.possible_rewrite.ensures ∙ (λ j. taken (tables (c.query-query.ensures j).store) l.subpat (offer_at (answered g.H.Host.meaning (c.back.ensures.same j) (c.query-query.ensures j) l.before) c.args.trying.tried)) in
     record {
       steps = take_turn (asked t.request) _ _ c.args.self.now l c.requires.sound c.args.trying c.requires.phase _ c.take.new.self (g.R.EqRewriter.state c.args.rewriter.now) _ _ c.if-trying.false (c.back.ensures.goes (tables_at t)) refl c.truncate.ensures here c.take.ensures;
