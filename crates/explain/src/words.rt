@@ -87,6 +87,7 @@ impl<'a> Iterator for Words<'a> {
     fn next(&mut self) -> Option<&'a [u8]> {
         let (word, after) = first_word(self.rest.trim_ascii_start());
         self.rest = after;
-        (!word.is_empty()).then_some(word)
+        // An `if` and no `then_some`: the proof takes the two cases apart.
+        if word.is_empty() { None } else { Some(word) }
     }
 }
