@@ -1,5 +1,5 @@
 -- The request that the lines read so far make. Assumes nothing.
-use Rattle.std.specs.Prelude.{ℕ, ◌-◌, ◌^◌, [], Some, None, vec_items, Option}
+use Rattle.std.specs.Prelude.{◌≡◌, ℕ, ◌-◌, ◌^◌, [], Some, None, vec_items, Option}
 use Rattle.std.specs.Option.{unwrap_or}
 use Rattle.request.specs.Asked.{Asked}
 use Rattle.request.specs.Bindings as request
@@ -8,6 +8,14 @@ use Rattle.request.specs.declared.kinds.LogEntry.{LogEntry}
 use Rattle.explain.specs.declared.text.Bindings.{Bindings}
 use Rattle.explain.specs.declared.text.Bindings.TheVariants.{Terms, Nodes}
 use Rattle.explain.specs.declared.text.RequestText.{RequestText}
+use Rattle.explain.specs.declared.host_text.HostText.{HostText}
+
+-- a host of which no line has said anything yet
+pub record Untold (h : HostText) : Type 0 where
+  pub live : vec_items h.live ≡ []
+  pub kind : h.class_kind ≡ None
+  pub classes : vec_items h.classes ≡ []
+  pub version : h.version ≡ None
 
 -- an entry whose pairs stand in the table from this place on
 abbrev pub logged : ℕ → ℕ → ℕ → LogEntry

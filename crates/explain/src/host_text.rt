@@ -1,7 +1,9 @@
 // The host that a request's finds and rounds are asked of, as it is read.
-ghost use Rattle.std.specs.Prelude.{◌≡◌, [], ◌∷◌, ◌++◌, IfOk, Some, MatchResult, OnOk, ◌≢◌};
+ghost use Rattle.std.specs.Prelude.{◌≡◌, [], ◌∷◌, ◌++◌, IfOk, IfErr, Some, MatchResult, OnOk, ◌≢◌};
 ghost use Rattle.explain.specs.Given.{given, none_given};
 ghost use Rattle.explain.specs.Once.{Once};
+ghost use Rattle.explain.specs.Read.{Untold};
+ghost use Rattle.explain.specs.declared.expected.Expected.TheVariants.{ClassLine};
 ghost use Rattle.std.specs.Option.{unwrap_or};
 
 use crate::expected::{Expected, LineError};
@@ -49,7 +51,9 @@ pub struct HostText {
 }
 
 impl HostText {
-    pub fn new(heap: Global) -> HostText {
+    pub fn new(heap: Global) -> HostText
+        ensures { Untold result }
+    {
         HostText {
             live: Vec::new(heap),
             class_kind: None,
@@ -67,7 +71,7 @@ impl HostText {
 
     // The first line of classes says which kind the others are of.
     fn keep_to(&mut self, kind: ClassKind) -> Result<(), Expected>
-        ensures kind { MatchResult result (λ _. (unwrap_or self.old.class_kind kind ≡ kind) × (self.new.class_kind ≡ Some kind)) (λ _. unwrap_or self.old.class_kind kind ≢ kind) }
+        ensures kind { MatchResult result (λ _. (unwrap_or self.old.class_kind kind ≡ kind) × (self.new.class_kind ≡ Some kind)) (λ e. (unwrap_or self.old.class_kind kind ≢ kind) × (e ≡ ClassLine (unwrap_or self.old.class_kind kind)) × (self.new.class_kind ≡ self.old.class_kind)) }
         ensures classes { self.new.classes ≡ self.old.classes }
     {
         let first = *self.class_kind.get_or_insert(kind);
@@ -78,7 +82,8 @@ impl HostText {
     }
 
     pub fn add_class(&mut self, kind: ClassKind, class: Class) -> Result<(), LineError>
-        ensures { OnOk result (self.new.classes.items ≡ self.old.classes.items ++ (class ∷ [])) }
+        ensures kind { OnOk result ((unwrap_or self.old.class_kind kind ≡ kind) × (self.new.class_kind ≡ Some kind)) }
+        ensures classes { OnOk result (self.new.classes.items ≡ self.old.classes.items ++ (class ∷ [])) }
     {
         self.keep_to(kind)?;
         self.classes.push(class)?;
@@ -100,7 +105,8 @@ impl HostText {
     }
 
     pub fn set_version(&mut self, version: Version) -> Result<(), Expected>
-        ensures { Once result self.old.version self.new.version version }
+        ensures once { Once result self.old.version self.new.version version }
+        ensures refusal { IfErr result (λ e. e ≡ Expected.OneVersion) }
     {
         set_once(&mut self.version, version, Expected::OneVersion)
     }

@@ -65,23 +65,12 @@ fn offers_of<H: Host>(
         blame: query.term,
         subpat: query.pattern_term,
     };
-    ask(heap, AnyEq::new(query.kind, pairs, &[]), &asked)
-}
-
-// What a rewriter offers from its first state.
-fn ask<H: Host, R: EqRewriter + Drop>(
-    heap: Global,
-    mut rewriter: R,
-    query: &rewrite::Query<'_, H>,
-) -> Result<Option<Offers>, AllocError>
-    ensures { IfOk result (λ o. option_map listed o ≡ first_offers (R.EqRewriter.rewriter rewriter (tables query.now.store)) (meant H.Host.meaning query.now)) }
-{
-    rewriter.reset();
+    let mut rewriter = AnyEq::new(query.kind, pairs, &[]);
     let mark = rewriter.mark();
-    let Some(offered) = rewriter.possible_rewrite_count(query) else {
+    let Some(offered) = rewriter.possible_rewrite_count(&asked) else {
         return Ok(None);
     };
-    let tos = first_of(heap, &rewriter, query, mark, offered.count)?;
+    let tos = first_of(heap, &rewriter, &asked, mark, offered.count)?;
     Ok(Some(Offers {
         from: offered.from,
         tos,

@@ -71,7 +71,7 @@ impl StoreText {
     }
 
     pub fn mark(&mut self, term: usize, has_var: HasVar) -> Result<(), Expected>
-        ensures { MatchResult result (λ _. (term < length self.old.terms) × (self.new ≡ with_mark self.old term has_var)) (λ _. length self.old.terms ≤ term) }
+        ensures { MatchResult result (λ _. (term < length self.old.terms) × (self.new ≡ with_mark self.old term has_var)) (λ e. (length self.old.terms ≤ term) × (e ≡ Expected.GivenTerm) × (self.new ≡ self.old)) }
     {
         let term = self.terms.get_mut(term).ok_or(Expected::GivenTerm)?;
         term.has_var = has_var;

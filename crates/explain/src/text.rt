@@ -1,7 +1,8 @@
 // A request as it is read, line by line.
-ghost use Rattle.std.specs.Prelude.{◌≡◌, [], ◌∷◌, ◌++◌, length, vec_len, OnOk};
+ghost use Rattle.std.specs.Prelude.{◌≡◌, [], ◌∷◌, ◌++◌, None, length, vec_len, OnOk, IfErr};
+ghost use Rattle.explain.specs.Held.{empty};
 ghost use Rattle.explain.specs.Once.{Once};
-ghost use Rattle.explain.specs.Read.{logged, bound_items, bound_by, asked_by};
+ghost use Rattle.explain.specs.Read.{logged, bound_items, bound_by, asked_by, Untold};
 ghost use Rattle.request.specs.Asked.{asked};
 ghost use Rattle.request.specs.Bindings.{bindings};
 
@@ -80,7 +81,12 @@ pub struct RequestText {
 }
 
 impl RequestText {
-    pub fn new(heap: Global) -> RequestText {
+    pub fn new(heap: Global) -> RequestText
+        ensures store { result.store ≡ empty }
+        ensures host { Untold result.host }
+        ensures once { (result.pattern ≡ None) × (result.bindings ≡ None) }
+        ensures lists { (result.entries.items ≡ []) × (result.pairs.items ≡ []) × (result.actions.items ≡ []) }
+    {
         RequestText {
             store: StoreText::new(heap),
             host: HostText::new(heap),
@@ -93,13 +99,15 @@ impl RequestText {
     }
 
     pub fn set_pattern(&mut self, term: usize) -> Result<(), Expected>
-        ensures { Once result self.old.pattern self.new.pattern term }
+        ensures once { Once result self.old.pattern self.new.pattern term }
+        ensures refusal { IfErr result (λ e. e ≡ Expected.OnePattern) }
     {
         set_once(&mut self.pattern, term, Expected::OnePattern)
     }
 
     pub fn set_bindings(&mut self, bindings: Bindings) -> Result<(), Expected>
-        ensures { Once result self.old.bindings self.new.bindings bindings }
+        ensures once { Once result self.old.bindings self.new.bindings bindings }
+        ensures refusal { IfErr result (λ e. e ≡ Expected.OneBindings) }
     {
         set_once(&mut self.bindings, bindings, Expected::OneBindings)
     }

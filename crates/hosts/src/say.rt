@@ -35,12 +35,7 @@ impl fmt::Display for Made {
     fn fmt<W: fmt::Write>(&self, f: &mut fmt::Formatter<W>) -> fmt::Result {
         match self.0 {
             Ok(number) => write!(f, "{number}"),
-            Err(fault) => {
-                let ground = fault.refusal.number();
-                let layer = fault.layer;
-                let culprit = fault.culprit;
-                write!(f, "refused {ground}, {layer:?}, {culprit:?}")
-            }
+            Err(fault) => write!(f, "{fault}"),
         }
     }
 }
