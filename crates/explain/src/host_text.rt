@@ -7,7 +7,7 @@ ghost use Rattle.explain.specs.declared.expected.Expected.TheVariants.{ClassLine
 ghost use Rattle.std.specs.Option.{unwrap_or};
 
 use crate::expected::{Expected, LineError};
-use crate::host_tables::{ClassTables, HostTables, LiveTable};
+use crate::host_tables::{HostTables, table};
 use crate::once::set_once;
 use std::alloc::{AllocError, Global};
 use std::fmt;
@@ -92,15 +92,17 @@ impl HostText {
 
     // The tables that the lines give, for a store with so many terms and nodes.
     pub fn tables(&self, terms: usize, nodes: usize, heap: Global) -> Result<HostTables, AllocError>
-        ensures live { IfOk result (λ t. t.live.0.items ≡ given (λ l. l.term) (λ l. l.node) (none_given terms) self.now.live.items) }
-        ensures loose { IfOk result (λ t. t.classes.loose.items ≡ given (λ l. l.node) (λ l. l.loose) (none_given nodes) self.now.classes.items) }
-        ensures strict { IfOk result (λ t. t.classes.strict.items ≡ given (λ l. l.node) (λ l. l.strict) (none_given nodes) self.now.classes.items) }
+        ensures live { IfOk result (λ t. t.live.items ≡ given (λ l. l.term) (λ l. l.node) (none_given terms) self.now.live.items) }
+        ensures loose { IfOk result (λ t. t.loose.items ≡ given (λ l. l.node) (λ l. l.loose) (none_given nodes) self.now.classes.items) }
+        ensures strict { IfOk result (λ t. t.strict.items ≡ given (λ l. l.node) (λ l. l.strict) (none_given nodes) self.now.classes.items) }
         ensures kind { IfOk result (λ t. t.class_kind ≡ unwrap_or self.now.class_kind ClassKind.Class) }
     {
+        let classes = self.classes.as_slice();
         Ok(HostTables {
-            live: LiveTable::new(self.live.as_slice(), terms, heap)?,
+            live: table(self.live.as_slice(), |l| l.term, |l| l.node, terms, heap)?,
             class_kind: self.class_kind.unwrap_or(ClassKind::Class),
-            classes: ClassTables::new(self.classes.as_slice(), nodes, heap)?,
+            loose: table(classes, |l| l.node, |l| l.loose, nodes, heap)?,
+            strict: table(classes, |l| l.node, |l| l.strict, nodes, heap)?,
         })
     }
 

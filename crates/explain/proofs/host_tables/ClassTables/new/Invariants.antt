@@ -1,7 +1,0 @@
-use Rattle.explain.proofs.host_tables.ClassTables.new.Given as goal
-
-abbrev pub ghost-table : goal.ghost-table
-ghost-table a = (λ l. l.node, λ l. l.loose)
-
-abbrev pub ghost-table-2 : goal.ghost-table-2
-ghost-table-2 a = (λ l. l.node, λ l. l.strict)
