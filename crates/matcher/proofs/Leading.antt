@@ -128,6 +128,6 @@ finished_gives ρ P (Some h) xs g e = go (ρ.finished h.state) e
     go false e = absurd (some_not_none None xs refl e)
 
 pub found_leads : FoundLeads
-found_leads S ρ m ns p b xs rules proper e =
+found_leads S ρ m ns p b xs rules host aside e =
     finished_gives ρ (Leads (view S) p b) (seek (view S) (asking ρ m ns) p b ρ.first) xs
-    (seek_leads (view S) (asking ρ m ns) (λ st b s o f. rules.from_owned st (query m ns b s) o (proper b s) f) p b ρ.first) e
+    (seek_leads (view S) (asking ρ m ns) (λ st b s o f. rules.from_owned st (query m ns b s) o (record { host_ruled = host; aside_there = aside }) f) p b ρ.first) e

@@ -17,7 +17,7 @@ use Rattle.matcher.specs.declared.machine.PatternMatcher.{PatternMatcher}
 use Rattle.matcher.specs.Machine.{tos_of, left, resume, runner, phase_run, PhaseSound, LevelSound, Stacked, ModeSound}
 use Rattle.matcher.specs.Running.{tick, offers_run, one_run}
 use Rattle.matcher.specs.Search.{Asking, ends}
-use Rattle.matcher.specs.Stepping.{stack, taken_by, taken, taken_level, taken_pairs, taken_mode, Takes, MachineSound, Stepped, machine_left}
+use Rattle.matcher.specs.Stepping.{stack, taken_by, taken, taken_level, taken_pairs, settled_mode, Takes, MachineSound, Stepped, machine_left}
 use Rattle.matcher.specs.Trees.{fits_as, view}
 use Rattle.matcher.proofs.Offering.{drop_nth}
 use Rattle.matcher.proofs.Turning.{stepped_at, cap_64}
@@ -39,15 +39,15 @@ module _ (R : Asked) (ρ : RewriterMeaning) (A : Asking) (l : Level) (ls : List 
         ap (λ ph. phase_run R A l ph (resume R A ls) acc) p
         ∙ ap (λ a. offers_run (view R.store) A (runner R A l.subpat) l.subpat w.offered.from (drop w.tried (tos_of a)) w.after l.start (resume R A ls) acc) phased.1
 
-    one_eq : (m : ℕ) (o : Option ℕ) → one_run (view R.store) A (runner R A l.subpat) l.subpat w.offered.from m w.after l.start (resume R A ls) acc (phase_run R A l (Some one_more) (resume R A ls)) o ≡ left R A (taken_level with_one_more (taken_by R.store l.subpat m o) ∷ ls) (taken_pairs (take l.start acc) w.offered.from (taken_by R.store l.subpat m o)) (taken_mode (taken_by R.store l.subpat m o)) w.after
+    one_eq : (m : ℕ) (o : Option ℕ) → one_run (view R.store) A (runner R A l.subpat) l.subpat w.offered.from m w.after l.start (resume R A ls) acc (phase_run R A l (Some one_more) (resume R A ls)) o ≡ left R A (taken_level with_one_more (taken_by R.store l.subpat m o) ∷ ls) (taken_pairs (take l.start acc) w.offered.from (taken_by R.store l.subpat m o)) (settled_mode (taken_by R.store l.subpat m o)) w.after
     one_eq m None = refl
     one_eq m (Some c) = go (fits_as (term_at R.store c) (term_at R.store l.subpat))
       where
-        go : (q : Bool) → cond q (runner R A l.subpat ((view R.store).below c) w.after (take l.start acc ++ ends w.offered.from m ∷ []) (phase_run R A l (Some one_more) (resume R A ls)) (resume R A ls)) (phase_run R A l (Some one_more) (resume R A ls) (take l.start acc)) ≡ left R A (taken_level with_one_more (cond q (Some (record { node = m; term = c })) None) ∷ ls) (taken_pairs (take l.start acc) w.offered.from (cond q (Some (record { node = m; term = c })) None)) (taken_mode (cond q (Some (record { node = m; term = c })) None)) w.after
+        go : (q : Bool) → cond q (runner R A l.subpat ((view R.store).below c) w.after (take l.start acc ++ ends w.offered.from m ∷ []) (phase_run R A l (Some one_more) (resume R A ls)) (resume R A ls)) (phase_run R A l (Some one_more) (resume R A ls) (take l.start acc)) ≡ left R A (taken_level with_one_more (cond q (Some (record { node = m; term = c })) None) ∷ ls) (taken_pairs (take l.start acc) w.offered.from (cond q (Some (record { node = m; term = c })) None)) (settled_mode {X = Taken} (cond q (Some (record { node = m; term = c })) None)) w.after
         go true = refl
         go false = refl
 
-    pub take_eq : (st m : ℕ) → slice_get phased.0 w.tried ≡ Some m → left R A (l ∷ ls) acc Miss st ≡ tick (left R A (taken_level with_one_more (taken R.store l.subpat (Some m)) ∷ ls) (taken_pairs (take l.start acc) w.offered.from (taken R.store l.subpat (Some m))) (taken_mode (taken R.store l.subpat (Some m))) w.after)
+    pub take_eq : (st m : ℕ) → slice_get phased.0 w.tried ≡ Some m → left R A (l ∷ ls) acc Miss st ≡ tick (left R A (taken_level with_one_more (taken R.store l.subpat (Some m)) ∷ ls) (taken_pairs (take l.start acc) w.offered.from (taken R.store l.subpat (Some m))) (settled_mode (taken R.store l.subpat (Some m))) w.after)
     take_eq st m e =
         offered_eq st
         ∙ ap (λ ms. offers_run (view R.store) A (runner R A l.subpat) l.subpat w.offered.from ms w.after l.start (resume R A ls) acc) (drop_nth phased.0 w.tried m e)
@@ -64,7 +64,7 @@ module _ (R : Asked) (ρ : RewriterMeaning) (A : Asking) (l : Level) (ls : List 
     take_level None = tried_sound
     take_level (Some t) = record { finite = ok.finite; opens = ok.opens; shallow = ok.shallow; room = ok.room; marked = ok.marked; phased = phased }
 
-    pub take_mode : (o : Option Taken) → ModeSound R ρ (taken_level with_one_more o ∷ ls) (taken_pairs (take l.start acc) w.offered.from o) w.after (taken_mode o)
+    pub take_mode : (o : Option Taken) → ModeSound R ρ (taken_level with_one_more o ∷ ls) (taken_pairs (take l.start acc) w.offered.from o) w.after (settled_mode o)
     take_mode None = tt
     take_mode (Some t) = (omega (arith, length_push (take l.start acc) (ends w.offered.from t.node), length-take l.start acc, size_now R ρ A l ls acc 0 ok), phased.4)
 
@@ -86,7 +86,7 @@ module _ (R : Asked) (ρ : RewriterMeaning) (A : Asking) (M : PatternMatcher) (l
         go None is done = let there = nth_there ph.0 w.tried (omega (arith, h, ph.2)) in absurd (some_not_none (slice_get ph.0 w.tried) there.0 is there.1)
         go (Some m) is done =
             let o = taken R.store l.subpat (Some m) in
-            stepped_at R ρ A (left R A (l ∷ stack M) M.pairs Miss st) M' w.after (taken_level l' o ∷ stack M) (taken_pairs (take l.start M.pairs) w.offered.from o) (taken_mode o)
+            stepped_at R ρ A (left R A (l ∷ stack M) M.pairs Miss st) M' w.after (taken_level l' o ∷ stack M) (taken_pairs (take l.start M.pairs) w.offered.from o) (settled_mode o)
             (ap reverse done.levels ∙ reverse-append N.levels (taken_level l' o ∷ []) ∙ ap (λ x. taken_level l' o ∷ reverse x) e)
             (done.pairs ∙ ap (λ x. taken_pairs x w.offered.from o) g) done.mode
             (take_eq R ρ A l (stack M) M.pairs stacked.0 w p st m (sym is))

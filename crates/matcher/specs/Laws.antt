@@ -1,10 +1,11 @@
 -- What the search achieves.
-use Rattle.std.specs.Prelude.{◌≡◌, ℕ, true, List, is_some, Some, Option}
+use Rattle.std.specs.Prelude.{◌≡◌, ℕ, ◌<◌, true, List, length, is_some, Some, Option}
+use Rattle.std.specs.List.{All}
 use Rattle.store.specs.Tables.{Tables}
 use Rattle.request.specs.declared.kinds.Pair.{Pair}
 use Rattle.request.specs.Asked.{Asked}
 use Rattle.host.specs.Meaning.{HostMeaning, HostRules}
-use Rattle.rewrite.specs.Meaning.{Offers, RewriterMeaning, OfferRules, Proper, Steady, query}
+use Rattle.rewrite.specs.Meaning.{Offers, RewriterMeaning, OfferRules, Steady, query}
 use Rattle.rewrite.specs.Kinds.{custom, force}
 use Rattle.matcher.specs.Derivations.{Offered, Derives, First, Leads}
 use Rattle.matcher.specs.Search.{found}
@@ -34,6 +35,6 @@ CustomFinds = (R : Asked) (ρ : RewriterMeaning) (m : HostMeaning) (ns : List �
 abbrev pub ForceFinds : Type 0
 ForceFinds = (R : Asked) (ρ : RewriterMeaning) (m : HostMeaning) (ns : List ℕ) (s b : ℕ) → HostRules R.store m → Steady ρ → is_some (found (view R.store) (custom ρ) m ns (part R s) b) ≡ true → is_some (found (view R.store) (force ρ) m ns (part R s) b) ≡ true
 
--- what any rewriter that keeps the offer rules finds leads from the term to the part, whether it moves or not
+-- what any rewriter that keeps the offer rules finds, at a host that keeps its own and with set-aside nodes of the store, leads from the term to the part
 abbrev pub FoundLeads : Type 0
-FoundLeads = (S : Tables) (ρ : RewriterMeaning) (m : HostMeaning) (ns : List ℕ) (p : Pat) (b : ℕ) (xs : List Pair) → OfferRules S ρ → ((b s : ℕ) → Proper S (query m ns b s)) → found (view S) ρ m ns p b ≡ Some xs → Leads (view S) p b xs
+FoundLeads = (S : Tables) (ρ : RewriterMeaning) (m : HostMeaning) (ns : List ℕ) (p : Pat) (b : ℕ) (xs : List Pair) → OfferRules S ρ → HostRules S m → All (λ n. n < length S.nodes) ns → found (view S) ρ m ns p b ≡ Some xs → Leads (view S) p b xs

@@ -8,7 +8,7 @@ use Rattle.rewrite.specs.declared.query.Query.{Query}
 use Rattle.rewrite.specs.Meaning.{Offers, RewriterMeaning, meant, returned, offer_at}
 use Rattle.matcher.specs.declared.level.Level.{Level}
 use Rattle.matcher.specs.declared.level.Mode.{Mode}
-use Rattle.matcher.specs.declared.level.Mode.TheVariants.{Hit}
+use Rattle.matcher.specs.declared.level.Mode.TheVariants.{Hit, Miss}
 use Rattle.matcher.specs.declared.machine.PatternMatcher.{PatternMatcher}
 use Rattle.matcher.specs.declared.setting.Setting.{Setting}
 use Rattle.matcher.specs.Machine.{owned_in, Stacked, left}
@@ -76,9 +76,9 @@ module _ {H R : Type 0} (meaning : H → Tables → HostMeaning) (means : R → 
     pub steps : Stepped (asked t.request) (meant_by r) (asking_at meaning t (meant_by r)) (left_at r M r) M' (state r')
     pub same : Stays r r'
 
-  -- the same, where the top level has been taken off
-  pub record StepsOff (l : Level) (mode : Mode) (M : PatternMatcher) (r : R) (M' : PatternMatcher) (r' : R) : Type 0 where
-    pub steps : Stepped (asked t.request) (meant_by r) (asking_at meaning t (meant_by r)) (left (asked t.request) (asking_at meaning t (meant_by r)) (l ∷ stack M) M.pairs mode (state r)) M' (state r')
+  -- the same at a miss, where the top level has been taken off
+  pub record StepsOff (l : Level) (M : PatternMatcher) (r : R) (M' : PatternMatcher) (r' : R) : Type 0 where
+    pub steps : Stepped (asked t.request) (meant_by r) (asking_at meaning t (meant_by r)) (left (asked t.request) (asking_at meaning t (meant_by r)) (l ∷ stack M) M.pairs Miss (state r)) M' (state r')
     pub same : Stays r r'
 
   -- nothing is left to do, and the rewriter is as it was

@@ -12,6 +12,7 @@ use Rattle.matcher.specs.declared.level.Mode.TheVariants.{Down, Hit, Miss}
 use Rattle.matcher.specs.declared.machine.PatternMatcher.{PatternMatcher}
 use Rattle.matcher.specs.Machine.{left, Stacked, ModeSound, Finite}
 use Rattle.matcher.specs.Running.{Run, tick}
+use Rattle.std.specs.Option.{option_map}
 use Rattle.matcher.specs.Search.{Asking, asking, ends, hit}
 use Rattle.matcher.specs.Search as found
 use Rattle.matcher.specs.Trees.{fits_as, part, view}
@@ -25,9 +26,9 @@ abbrev pub settled_pairs : List Pair → Option Pair → List Pair
 settled_pairs acc None = acc
 settled_pairs acc (Some p) = acc ++ p ∷ []
 
-abbrev pub settled_mode : Option Pair → Mode
+abbrev pub settled_mode : {X : Type 0} → Option X → Mode
 settled_mode None = Miss
-settled_mode (Some p) = Hit
+settled_mode (Some x) = Hit
 
 pub record Settles (M : PatternMatcher) (by : Option Pair) (M' : PatternMatcher) : Type 0 where
   pub levels : M'.levels ≡ M.levels
@@ -87,17 +88,12 @@ taken_level l None = l
 taken_level l (Some t) = record l { term = t.term; child = 0 }
 
 abbrev pub taken_pairs : List Pair → ℕ → Option Taken → List Pair
-taken_pairs acc n None = acc
-taken_pairs acc n (Some t) = acc ++ ends n t.node ∷ []
-
-abbrev pub taken_mode : Option Taken → Mode
-taken_mode None = Miss
-taken_mode (Some t) = Hit
+taken_pairs acc n o = settled_pairs acc (option_map (λ t. ends n t.node) o)
 
 pub record Takes (M : PatternMatcher) (l : Level) (n : ℕ) (o : Option Taken) (M' : PatternMatcher) : Type 0 where
   pub levels : M'.levels ≡ M.levels ++ taken_level l o ∷ []
   pub pairs : M'.pairs ≡ taken_pairs M.pairs n o
-  pub mode : M'.mode ≡ taken_mode o
+  pub mode : M'.mode ≡ settled_mode o
 
 pub record MachineSound (R : Asked) (ρ : RewriterMeaning) (A : Asking) (M : PatternMatcher) (st : ℕ) : Type 0 where
   pub levels : Stacked R ρ A (stack M)

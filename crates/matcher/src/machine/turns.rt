@@ -1,6 +1,6 @@
 // The turns of the machine.
 ghost use Rattle.std.specs.Prelude.{◌≡◌, ℕ, ◌<◌, [], ◌∷◌, length, Some};
-ghost use Rattle.matcher.specs.declared.level.Mode.TheVariants.{Down, Miss};
+ghost use Rattle.matcher.specs.declared.level.Mode.TheVariants.{Down};
 ghost use Rattle.matcher.specs.Settings.{Sound, StackedOff, AsksAt, Steps, StepsOff, Turned};
 ghost use Rattle.matcher.specs.Stepping.{stack, Settles, Opens, Advances, Takes};
 ghost use Rattle.matcher.specs.Trees.{child_at};
@@ -157,7 +157,7 @@ impl PatternMatcher {
     )
         requires phase { level.phase ≡ Some trying }
         requires sound { StackedOff H.Host.meaning R.EqRewriter.rewriter R.EqRewriter.state setting.now level self.old rewriter.old }
-        ensures { StepsOff H.Host.meaning R.EqRewriter.rewriter R.EqRewriter.state setting.now level Miss self.old rewriter.old self.new rewriter.new }
+        ensures { StepsOff H.Host.meaning R.EqRewriter.rewriter R.EqRewriter.state setting.now level self.old rewriter.old self.new rewriter.new }
     {
         if trying.tried >= trying.offered.count {
             self.mode = Mode::Miss;
