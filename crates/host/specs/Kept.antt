@@ -3,10 +3,11 @@ use Rattle.std.specs.Prelude.{◌≡◌, ℕ, ◌<◌, Bool, true, false, cond, 
 use Rattle.std.proofs.Common.{sym, ap, subst}
 use Rattle.std.specs.List.{slice_get}
 use Rattle.std.proofs.lemmas.Bool.{and_parts, eqb-true, true≢false}
+use Rattle.std.proofs.lemmas.Option.{cond_some}
 use Rattle.store.specs.declared.term.HasVar.{HasVar}
 use Rattle.store.specs.declared.term.HasVar.TheVariants.{No, Yes, Unknown}
 use Rattle.store.specs.Tables.{Tables, owner_of, recorded, Closed}
-use Rattle.store.proofs.Decided.{some_not_none, same_some}
+use Rattle.store.proofs.Decided.{some_not_none}
 use Rattle.host.specs.declared.table.TableHost.{TableHost}
 use Rattle.host.specs.Meaning.{HostRules}
 use Rattle.host.specs.Reading.{is_no, is_the, live_as}
@@ -21,14 +22,10 @@ no_var No e = refl
 no_var Yes e = absurd (true≢false (sym e))
 no_var Unknown e = absurd (true≢false (sym e))
 
-chosen : (b : Bool) (n m : ℕ) → cond b (Some n) None ≡ Some m → (b ≡ true) × (n ≡ m)
-chosen true n m e = (refl, same_some _ n m refl e)
-chosen false n m e = absurd (some_not_none None m refl e)
-
 pub live_kept : (S : Tables) (t n : ℕ) (o : Option ℕ) → live_as S t o ≡ Some n → (owner_of S n ≡ Some t) × Closed S t
 live_kept S t n None e = absurd (some_not_none None n refl e)
 live_kept S t n (Some m) e =
-    let c = chosen (is_the (owner_of S m) t && is_no (recorded S t)) m n e in
+    let c = cond_some (is_the (owner_of S m) t && is_no (recorded S t)) m n e in
     let both = and_parts (is_the (owner_of S m) t) (is_no (recorded S t)) c.0 in
     (subst (λ k. owner_of S k ≡ Some t) c.1 (the_owner (owner_of S m) t both.0), no_var (recorded S t) both.1)
 

@@ -8,6 +8,7 @@ use Rattle.store.specs.declared.fault.Refusal.{Refusal}
 use Rattle.store.specs.declared.fault.Refusal.TheVariants.{BadEnds, EndsApart, EndsLooselyJoined, HostFull}
 use Rattle.store.specs.Tables.{Tables, owner_of, Closed}
 use Rattle.request.specs.declared.kinds.Pair.{Pair}
+use Rattle.request.specs.Pairs.{is_proper}
 use Rattle.host.specs.declared.allowed.TransEqAllowed.{TransEqAllowed}
 
 -- a live node or none for each term; whether one loose class, one strict class holds two nodes; the equalities made, by number, and how many there may be
@@ -24,12 +25,6 @@ pub record HostRules (S : Tables) (m : HostMeaning) : Type 0 where
   pub classes_hold_nodes : (a b : ℕ) → m.loose a b ≡ true → (a < length S.nodes) × (b < length S.nodes)
   pub strict_within_loose : (a b : ℕ) → m.strict a b ≡ true → m.loose a b ≡ true
   pub few : length m.listed ≤ m.room
-
--- both ends are nodes of the store, and two
-pub record GoodEnds (S : Tables) (p : Pair) : Type 0 where
-  pub from_there : p.from < length S.nodes
-  pub to_there : p.to < length S.nodes
-  pub two : p.from ≡ p.to → ⊥
 
 -- ends that are apart need the initial allowance, ends that are only loosely joined the congruence allowance
 pub record Permitted (m : HostMeaning) (p : Pair) (a : TransEqAllowed) : Type 0 where
@@ -55,9 +50,9 @@ with_listed m ps = record { live = m.live; loose = m.loose; strict = m.strict; l
 -- One making: the first ground that holds refuses and changes nothing. Else the answer is the number of some equality that is listed with
 -- these ends, which of several is left to the host; and if there is none, the equality is appended, unless the list is full.
 pub data Makes (S : Tables) (m : HostMeaning) (p : Pair) (a : TransEqAllowed) : Result ℕ Fault → HostMeaning → Type 0 where
-  bad_ends : (GoodEnds S p → ⊥) → Makes S m p a (Err (in_host BadEnds)) m
-  apart : GoodEnds S p → m.loose p.from p.to ≡ false → a.can_mismatch_initial ≡ false → Makes S m p a (Err (in_host EndsApart)) m
-  loosely_joined : GoodEnds S p → m.loose p.from p.to ≡ true → m.strict p.from p.to ≡ false → a.can_mismatch_congr ≡ false → Makes S m p a (Err (in_host EndsLooselyJoined)) m
-  full : GoodEnds S p → Permitted m p a → Unlisted m p → m.room ≤ length m.listed → Makes S m p a (Err (in_host HostFull)) m
-  known : {k : ℕ} → GoodEnds S p → Permitted m p a → slice_get m.listed k ≡ Some p → Makes S m p a (Ok k) m
-  added : GoodEnds S p → Permitted m p a → Unlisted m p → length m.listed < m.room → Makes S m p a (Ok (length m.listed)) (with_listed m (m.listed ++ p ∷ []))
+  bad_ends : is_proper S p ≡ false → Makes S m p a (Err (in_host BadEnds)) m
+  apart : is_proper S p ≡ true → m.loose p.from p.to ≡ false → a.can_mismatch_initial ≡ false → Makes S m p a (Err (in_host EndsApart)) m
+  loosely_joined : is_proper S p ≡ true → m.loose p.from p.to ≡ true → m.strict p.from p.to ≡ false → a.can_mismatch_congr ≡ false → Makes S m p a (Err (in_host EndsLooselyJoined)) m
+  full : is_proper S p ≡ true → Permitted m p a → Unlisted m p → m.room ≤ length m.listed → Makes S m p a (Err (in_host HostFull)) m
+  known : {k : ℕ} → is_proper S p ≡ true → Permitted m p a → slice_get m.listed k ≡ Some p → Makes S m p a (Ok k) m
+  added : is_proper S p ≡ true → Permitted m p a → Unlisted m p → length m.listed < m.room → Makes S m p a (Ok (length m.listed)) (with_listed m (m.listed ++ p ∷ []))

@@ -19,11 +19,12 @@ live_as S t (Some n) = cond (is_the (owner_of S n) t && is_no (recorded S t)) (S
 abbrev pub live_in : Tables → List ℕ → ℕ → Option ℕ
 live_in S table t = live_as S t (slice_get table t)
 
--- two labels are one class if both name nodes and are equal
+-- a label that names no node is none
 abbrev pub label_at : ℕ → Option ℕ → Option ℕ
 label_at nodes None = None
 label_at nodes (Some c) = cond (nat_lt c nodes) (Some c) None
 
+-- two labels are one class if both name nodes and are equal
 abbrev pub same_label : Option ℕ → Option ℕ → Bool
 same_label None l = false
 same_label (Some c) None = false

@@ -1,6 +1,6 @@
 // A host that reads its live nodes and classes from tables, and lists up to 4,096 equalities.
-ghost use Rattle.std.specs.Prelude.{◌≡◌, ℕ, ◌≤◌, length, Some, Decides, MatchOption, ◌≢◌};
-ghost use Rattle.host.specs.Meaning.{GoodEnds, Permits, Makes, in_host};
+ghost use Rattle.std.specs.Prelude.{◌≡◌, ℕ, ◌≤◌, length, Some, MatchOption, ◌≢◌};
+ghost use Rattle.host.specs.Meaning.{Permits, Makes, in_host};
 ghost use Rattle.std.specs.List.{slice_get};
 ghost use Rattle.store.specs.Tables.{tables};
 
@@ -19,17 +19,11 @@ pub struct TableHost<'a, P> {
     ghost few: { length made ≤ 4096 },
 }
 
-// The number of the first equality with these ends.
+// The number of an equality with these ends.
 fn position(pairs: &[Pair], ends: Pair) -> Option<usize>
     ensures { MatchOption result ((k : ℕ) → slice_get pairs.now k ≢ Some ends) (λ k. slice_get pairs.now k ≡ Some ends) }
 {
     pairs.iter().position(|pair| *pair == ends)
-}
-
-fn are_ends(store: Store, ends: Pair) -> bool
-    ensures { Decides result (GoodEnds (tables store.entry) ends) }
-{
-    ends.is_proper(store)
 }
 
 fn refused(refusal: Refusal) -> Fault
@@ -104,7 +98,7 @@ impl<'a, P: Partition> Host for TableHost<'a, P> {
         ends: Pair,
         allowed: TransEqAllowed,
     ) -> Result<usize, Fault> {
-        if !are_ends(store, ends) {
+        if !ends.is_proper(store) {
             return Err(refused(Refusal::BadEnds));
         }
         self.permit(store, ends, allowed)?;

@@ -145,13 +145,12 @@ module _ (S : Tables) (ρ : RewriterMeaning) (below : OfferRules S ρ) where
     to_there = λ s q o pr e. (own_sound S q (same_ends q) (ρ.ask s q) o pr (same_join q (live_ends q) (live_join q)) (ask_sound s q o pr) e).there;
   }
 
-  nodes_sound : (q : Query) (n : ℕ) (ns : List ℕ) (o : Offers) → owner_of S n ≡ Some q.blame → All (λ m. m < length S.nodes) ns → nodes_from n ns ≡ Some o → Sound S q.blame o × (0 < length o.tos)
+  nodes_sound : (q : Query) (n : ℕ) (ns : List ℕ) (o : Offers) → owner_of S n ≡ Some q.blame → All (λ m. m < length S.nodes) ns → nodes_from n ns ≡ Some o → Sound S q.blame o
   nodes_sound q n [] o owned all e = cc
   nodes_sound q n (a ∷ ns) o owned all e =
-      let same = same_Some _ o e in
-      (subst (Sound S q.blame) same (record { owned = owned; there = all }), subst (λ x. 0 < length x.tos) same (omega arith))
+      subst (Sound S q.blame) (same_Some _ o e) (record { owned = owned; there = all })
 
-  aside_sound : (q : Query) (a b : Option ℕ) (o : Offers) → Proper S q → q.host.live q.blame ≡ a → aside_as a b q.aside ≡ Some o → Sound S q.blame o × (0 < length o.tos)
+  aside_sound : (q : Query) (a b : Option ℕ) (o : Offers) → Proper S q → q.host.live q.blame ≡ a → aside_as a b q.aside ≡ Some o → Sound S q.blame o
   aside_sound q None b o pr l e = cc
   aside_sound q (Some n) None o pr l e = nodes_sound q n q.aside o (pr.host_ruled.live_owned q.blame n l) pr.aside_there e
   aside_sound q (Some n) (Some m) o pr l e = cc
@@ -165,13 +164,13 @@ module _ (S : Tables) (ρ : RewriterMeaning) (below : OfferRules S ρ) where
   aside_some (Some n) None ns o e = nodes_some n ns o e
   aside_some (Some n) (Some m) ns o e = cc
 
-  or_sound : (q : Query) (a b : Option Offers) (o : Offers) (P : Offers → Type 0) → (a ≡ Some o → P o) → (b ≡ Some o → P o) → below_or a b ≡ Some o → P o
-  or_sound q None b o P f g e = g e
-  or_sound q (Some x) b o P f g e = f e
+  or_sound : (a b : Option Offers) (o : Offers) (P : Offers → Type 0) → (a ≡ Some o → P o) → (b ≡ Some o → P o) → below_or a b ≡ Some o → P o
+  or_sound None b o P f g e = g e
+  or_sound (Some x) b o P f g e = f e
 
   force_sound : (s : ℕ) (q : Query) (o : Offers) → Proper S q → (force ρ).ask s q ≡ Some o → Sound S q.blame o
   force_sound s q o pr e = own_sound S q (live_ends q) (below_or (ρ.ask s q) (aside_offer q)) o pr (live_join q)
-      (or_sound q (ρ.ask s q) (aside_offer q) o (Sound S q.blame) (ask_sound s q o pr) (λ f. (aside_sound q (q.host.live q.blame) (q.host.live q.subpat) o pr refl f).0)) e
+      (or_sound (ρ.ask s q) (aside_offer q) o (Sound S q.blame) (ask_sound s q o pr) (λ f. aside_sound q (q.host.live q.blame) (q.host.live q.subpat) o pr refl f)) e
 
   pub force_rules : OfferRules S (force ρ)
   force_rules = record {
@@ -179,7 +178,7 @@ module _ (S : Tables) (ρ : RewriterMeaning) (below : OfferRules S ρ) where
     next_known = λ s q e. own_known ρ (live_ends q) s (ρ.next s q) e (below.next_known s q e);
     from_owned = λ s q o pr e. (force_sound s q o pr e).owned;
     some_offer = λ s q o e. own_some (live_ends q) (below_or (ρ.ask s q) (aside_offer q)) o
-        (or_sound q (ρ.ask s q) (aside_offer q) o (λ x. 0 < length x.tos) (below.some_offer s q o) (aside_some (q.host.live q.blame) (q.host.live q.subpat) q.aside o)) e;
+        (or_sound (ρ.ask s q) (aside_offer q) o (λ x. 0 < length x.tos) (below.some_offer s q o) (aside_some (q.host.live q.blame) (q.host.live q.subpat) q.aside o)) e;
     to_there = λ s q o pr e. (force_sound s q o pr e).there;
   }
 
