@@ -10,6 +10,11 @@ alone No = refl
 alone Yes = refl
 alone Unknown = refl
 
+pub meets_unknown : (m : HasVar) (ms : List HasVar) → of_children (m ∷ Unknown ∷ ms) ≡ Unknown
+meets_unknown No ms = refl
+meets_unknown Yes ms = refl
+meets_unknown Unknown ms = refl
+
 together : (m r : HasVar) (ms : List HasVar) → of_children (of_children (m ∷ r ∷ []) ∷ ms) ≡ of_children (m ∷ r ∷ ms)
 together No No ms = refl
 together No Yes ms = refl

@@ -65,14 +65,16 @@ impl<T: Copy, const N: usize> Fixed<T, N> {
     }
 
     pub fn get(&self, i: usize) -> Option<T>
-        ensures { result ≡ slice_get self.now i }
+        ensures item { result ≡ slice_get self.now i }
+        ensures few { length self.now ≤ N }
     {
         lookup(self.as_slice(), i)
     }
 
     // The last item, which is taken off.
     pub fn pop(&mut self) -> Option<T>
-        ensures { MatchOption result ((self.old ≡ []) × (self.new ≡ self.old)) (λ x. self.old ≡ self.new ++ x ∷ []) }
+        ensures last { MatchOption result ((self.old ≡ []) × (self.new ≡ self.old)) (λ x. self.old ≡ self.new ++ x ∷ []) }
+        ensures few { length self.old ≤ N }
     {
         self.len = self.len.checked_sub(1)?;
         Some(self.items[self.len])
@@ -80,7 +82,8 @@ impl<T: Copy, const N: usize> Fixed<T, N> {
 
     // Keeps the first n items at most.
     pub fn truncate(&mut self, n: usize)
-        ensures { self.new ≡ take n self.old }
+        ensures kept { self.new ≡ take n self.old }
+        ensures few { length self.old ≤ N }
     {
         self.len = self.len.min(n);
     }

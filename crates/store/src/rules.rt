@@ -154,10 +154,14 @@ impl Store<'_> {
     fn of_children(self, kids: &[usize], missing: HasVar) -> HasVar
         ensures { result ≡ of_children (map (recorded_or missing (tables self.entry)) kids.now) }
     {
-        // A loop: the proof of a `fold` with a closure that reads the store does not close.
+        // A loop: the first unknown child ends it, and the proof of a `fold` with a closure that reads the store does not close.
         let mut found = HasVar::No;
         for c in kids {
-            found = found.with(self.has_var_or(*c, missing));
+            let own = self.has_var_or(*c, missing);
+            if own == HasVar::Unknown {
+                return own;
+            }
+            found = found.with(own);
         }
         found
     }
