@@ -145,12 +145,13 @@ module _ (S : Tables) (ρ : RewriterMeaning) (below : OfferRules S ρ) where
     to_there = λ s q o pr e. (own_sound S q (same_ends q) (ρ.ask s q) o pr (same_join q (live_ends q) (live_join q)) (ask_sound s q o pr) e).there;
   }
 
-  nodes_sound : (q : Query) (n : ℕ) (ns : List ℕ) (o : Offers) → owner_of S n ≡ Some q.blame → All (λ m. m < length S.nodes) ns → nodes_from n ns ≡ Some o → Sound S q.blame o
+  nodes_sound : (q : Query) (n : ℕ) (ns : List ℕ) (o : Offers) → owner_of S n ≡ Some q.blame → All (λ m. m < length S.nodes) ns → nodes_from n ns ≡ Some o → Sound S q.blame o × (0 < length o.tos)
   nodes_sound q n [] o owned all e = cc
   nodes_sound q n (a ∷ ns) o owned all e =
-      subst (Sound S q.blame) (same_Some _ o e) (record { owned = owned; there = all })
+      let same = same_Some _ o e in
+      (subst (Sound S q.blame) same (record { owned = owned; there = all }), subst (λ x. 0 < length x.tos) same (omega arith))
 
-  aside_sound : (q : Query) (a b : Option ℕ) (o : Offers) → Proper S q → q.host.live q.blame ≡ a → aside_as a b q.aside ≡ Some o → Sound S q.blame o
+  aside_sound : (q : Query) (a b : Option ℕ) (o : Offers) → Proper S q → q.host.live q.blame ≡ a → aside_as a b q.aside ≡ Some o → Sound S q.blame o × (0 < length o.tos)
   aside_sound q None b o pr l e = cc
   aside_sound q (Some n) None o pr l e = nodes_sound q n q.aside o (pr.host_ruled.live_owned q.blame n l) pr.aside_there e
   aside_sound q (Some n) (Some m) o pr l e = cc
@@ -170,7 +171,7 @@ module _ (S : Tables) (ρ : RewriterMeaning) (below : OfferRules S ρ) where
 
   force_sound : (s : ℕ) (q : Query) (o : Offers) → Proper S q → (force ρ).ask s q ≡ Some o → Sound S q.blame o
   force_sound s q o pr e = own_sound S q (live_ends q) (below_or (ρ.ask s q) (aside_offer q)) o pr (live_join q)
-      (or_sound (ρ.ask s q) (aside_offer q) o (Sound S q.blame) (ask_sound s q o pr) (λ f. aside_sound q (q.host.live q.blame) (q.host.live q.subpat) o pr refl f)) e
+      (or_sound (ρ.ask s q) (aside_offer q) o (Sound S q.blame) (ask_sound s q o pr) (λ f. (aside_sound q (q.host.live q.blame) (q.host.live q.subpat) o pr refl f).0)) e
 
   pub force_rules : OfferRules S (force ρ)
   force_rules = record {

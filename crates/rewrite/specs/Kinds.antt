@@ -1,6 +1,8 @@
 -- The four rewriters.
-use Rattle.std.specs.Prelude.{ℕ, suc, Bool, true, false, cond, ◌&&◌, List, [], ◌∷◌, ◌++◌, map, length, drop, Some, None, Option, ◌==◌, nat_le}
-use Rattle.std.specs.List.{filter, flat_map}
+use Rattle.std.specs.Prelude.{◌≡◌, ℕ, suc, ◌+◌, Bool, true, false, cond, ◌&&◌, List, [], ◌∷◌, ◌++◌, map, length, drop, Some, None, Option, ◌==◌, nat_le}
+use Rattle.std.specs.List.{filter, flat_map, slice_get}
+use Rattle.std.specs.declared.ops.ControlFlow.{ControlFlow}
+use Rattle.std.specs.declared.ops.ControlFlow.TheVariants.{Continue, Break}
 use Rattle.store.specs.Tables.{Tables, is_the, owner_of}
 use Rattle.request.specs.declared.kinds.Pair.{Pair}
 use Rattle.request.specs.Pairs.{is_proper}
@@ -54,6 +56,15 @@ both p = p ∷ turned p ∷ []
 
 abbrev pub ways : Tables → List Pair → ℕ → List Pair
 ways S ps b = filter (λ p. leaves S p b) (flat_map both ps)
+
+-- the one way of a pair as it stands, if it leaves from a node of b
+abbrev pub one_way : Tables → Pair → ℕ → List Pair
+one_way S p b = cond (leaves S p b) (p ∷ []) []
+
+-- going over ways to the one with number n: there it breaks off; else so many are left behind them
+abbrev pub Reaches : List Pair → ℕ → ControlFlow Pair ℕ → Type 0
+Reaches ws n (Continue left) = n ≡ length ws + left
+Reaches ws n (Break w) = slice_get ws n ≡ Some w
 
 -- the far ends in order, with the first near end
 abbrev pub far_ends : List Pair → Option Offers

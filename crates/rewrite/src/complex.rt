@@ -10,9 +10,10 @@ use crate::coupling::Coupling;
 use crate::offered::Offered;
 use crate::query::Query;
 use crate::rewriter::EqRewriter;
-use crate::ways::{both, count_ways, leaves};
+use crate::ways::{count_ways, pass_over};
 use host::Host;
 use request::Pair;
+use std::ops::ControlFlow;
 use store::Store;
 
 #[derive(Clone, Copy)]
@@ -34,13 +35,10 @@ impl<'a> ComplexEq<'a> {
     fn way(self, store: Store, term: usize, idx: usize) -> Option<Pair>
         ensures { result ≡ slice_get (ways (tables store.entry) (self.entry.own.now ++ self.entry.booked.now) term) idx }
     {
-        self.own
-            .iter()
-            .chain(self.booked)
-            .copied()
-            .flat_map(both)
-            .filter(|pair| leaves(store, *pair, term))
-            .nth(idx)
+        match pass_over(store, self.own, term, idx) {
+            ControlFlow::Break(way) => Some(way),
+            ControlFlow::Continue(left) => pass_over(store, self.booked, term, left).break_value(),
+        }
     }
 }
 
@@ -72,6 +70,9 @@ impl<'a> EqRewriter for ComplexEq<'a> {
         true
     }
 
+    // The two queries are inlined: a call that is handed the query by reference would keep a host's list that no one reads, and each
+    // host is made by clearing its list.
+    #[inline(always)]
     fn possible_rewrite_count<H: Host>(&mut self, query: &Query<'_, H>) -> Option<Offered> {
         let near = self.way(query.store, query.blame, 0)?;
         Some(Offered {
@@ -81,6 +82,7 @@ impl<'a> EqRewriter for ComplexEq<'a> {
         })
     }
 
+    #[inline(always)]
     fn possible_rewrite<H: Host>(
         &self,
         query: &Query<'_, H>,

@@ -1,19 +1,23 @@
-use Rattle.std.proofs.Common.{◌≡◌, rules, sym, subst, ◌∙◌}
-use Rattle.std.specs.Array.Iter.{array_into_iter_items}
-use Rattle.std.proofs.lemmas.Iterator.{YieldsList, YieldsList-from_slice}
-use Rattle.std.proofs.lemmas.Iterator.Adapters.{YieldsList-from_flat_map, option_map_id}
-use Rattle.std.proofs.lemmas.Iterator.Consumers.{YieldsList-at, YieldsList-from_chain, YieldsList-from_copied, YieldsList-from_filter, YieldsList-from_shown, nth_from_yields_List}
+use Rattle.std.proofs.Common.{◌++◌, sym, ap, ◌∙◌}
+use Rattle.std.specs.List.{slice_get}
 use Rattle.store.specs.Tables.{tables}
-use Rattle.rewrite.specs.Kinds.{leaves, both}
+use Rattle.rewrite.specs.Kinds.{ways}
+use Rattle.rewrite.proofs.Numbering.{ways_append, reached, behind, told}
 use Rattle.rewrite.proofs.complex.ComplexEq.way.Goals as goal
 
-pub returns : goal.returns
-returns c =
-    sym (option_map_id c.nth.result) ∙ nth_from_yields_List _ _ _ c.nth.ensures.ran
-    (YieldsList-from_filter _ (λ p. leaves (tables c.args.store) p c.args.term)
-    (YieldsList-at c.filter.ensures.source
-    (YieldsList-from_flat_map _ _ _ (λ x. x) both _
-    (λ x u q k. (search rules, λ j b. subst (YieldsList _ (λ x. x) j) (b.0 ∙ search rules) (YieldsList-from_shown _ (λ x. x) array_into_iter_items (λ s t h. h.0) (λ s x t h. h) j)))
-    (YieldsList-at c.flat_map.ensures.source (YieldsList-from_copied (YieldsList-at c.copied.ensures.source (YieldsList-from_chain (YieldsList-from_slice c.args.self.own.now (cc)) (YieldsList-from_slice c.args.self.booked.now (cc)) (cc) (cc))))) c.flat_map.ensures.closure c.flat_map.ensures.front c.flat_map.ensures.back c.flat_map.ensures.done))
-    c.filter.ensures.closure
-    (λ x r q k. (search rules, subst (λ y. r ≡ leaves (tables c.args.store) y c.args.term) k.shows (search rules))))
+pub returns-in-Break : goal.returns-in-Break
+returns-in-Break c =
+    let S = tables c.args.store in
+    let own = c.args.self.own.now in
+    let booked = c.args.self.booked.now in
+    let b = c.args.term in
+    sym (ap (λ l. slice_get l c.args.idx) (ways_append S b own booked) ∙ reached (ways S own b) (ways S booked b) c.args.idx c.in-Break.way c.in-Break.ensures)
+
+pub returns-in-Continue : goal.returns-in-Continue
+returns-in-Continue c =
+    let S = tables c.args.store in
+    let own = c.args.self.own.now in
+    let booked = c.args.self.booked.now in
+    let b = c.args.term in
+    let reaches = behind (ways S own b) (ways S booked b) c.args.idx c.in-Continue.left c.pass_over-in-Continue.result c.in-Continue.ensures c.pass_over-in-Continue.ensures in
+    c.break_value.ensures.value ∙ told (ways S own b ++ ways S booked b) c.args.idx c.pass_over-in-Continue.result reaches ∙ ap (λ l. slice_get l c.args.idx) (sym (ways_append S b own booked))
