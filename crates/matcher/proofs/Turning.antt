@@ -1,7 +1,7 @@
 -- Each turn of the machine leaves the answer as it is and takes one step, over plain lists.
-use Rattle.std.proofs.Common.{◌≡◌, ℕ, suc, ◌≤◌, Bool, true, false, cond, eqb, List, [], ◌∷◌, reverse, length, sym, refl, ap, ◌∙◌, subst, arith}
+use Rattle.std.proofs.Common.{◌≡◌, ℕ, suc, ◌<◌, ◌≤◌, Bool, true, false, cond, eqb, List, [], ◌∷◌, reverse, length, sym, refl, ap, ◌∙◌, subst, arith}
 use mathlib.Core.Path.{transport}
-use Rattle.std.proofs.lemmas.List.{reverse-append}
+use Rattle.std.proofs.lemmas.List.{length-reverse, reverse-append}
 use Rattle.std.proofs.lemmas.Bool.{ne_eqb, cond-false}
 use Rattle.request.specs.declared.kinds.Pair.{Pair}
 use Rattle.request.specs.Asked.{Asked}
@@ -70,6 +70,10 @@ module _ (R : Asked) (ρ : RewriterMeaning) (A : Asking) where
     open_mode true = (omega (arith, size_opened), here.3)
     open_mode false = tt
 
+  -- there is room for a level of any place that is entered
+  pub open_room : (ls : List Level) (acc : List Pair) (b s st : ℕ) → ModeSound R ρ ls acc st (Down b s) → length ls < 64
+  open_room ls acc b s st here = omega (arith, here.1, places_some (part R s))
+
   -- the same, from the machine's mode
   module _ (M : PatternMatcher) (b s st : ℕ) (mode : M.mode ≡ Down b s) (sound : MachineSound R ρ A M st) where
     pub down_here : ModeSound R ρ (stack M) M.pairs st (Down b s)
@@ -77,6 +81,9 @@ module _ (R : Asked) (ρ : RewriterMeaning) (A : Asking) where
 
     pub down_before : machine_left R A M st ≡ left R A (stack M) M.pairs (Down b s) st
     down_before = ap (λ m. left R A (stack M) M.pairs m st) mode
+
+    pub level_room : length M.levels < 64
+    level_room = omega (arith, open_room (stack M) M.pairs b s st down_here, length-reverse M.levels)
 
     module _ (ne : b ≡ s → ⊥) (is : part R s ≡ app s (all_trees (part_in R 63) (opened R.store s))) where
       pub opened_turn : (M' : PatternMatcher) (mark : ℕ) → mark ≡ st → Opens R.store M b s mark M' → Stepped R ρ A (machine_left R A M st) M' st

@@ -12,7 +12,7 @@ returns-in-Hit-default g c =
     let N : PatternMatcher = record { levels = c.pop.new.self; pairs = M.pairs; mode = M.mode } in
     let l = c.in-Some.level in
     record {
-      steps = off_turn _ _ _ M N l Hit _ c.in-Hit-default.is-0 c.in-Some.ensures refl c.on_hit.new.self _
-          (advance_turn (asked c.args.setting.now.request) _ _ N c.on_hit.new.self l _ _ _ (off_stacked _ _ _ M N l Hit _ c.in-Hit-default.is-0 c.in-Some.ensures refl c.requires) (off_here _ _ _ M N l Hit _ c.in-Hit-default.is-0 c.in-Some.ensures refl c.requires) refl refl c.on_hit.ensures);
+      steps = off_turn _ _ _ M N l Hit _ c.in-Hit-default.is-0 c.in-Some.ensures.last refl c.on_hit.new.self _
+          (advance_turn (asked c.args.setting.now.request) _ _ N c.on_hit.new.self l _ _ _ (off_stacked _ _ _ M N l Hit _ c.in-Hit-default.is-0 c.in-Some.ensures.last refl c.requires) (off_here _ _ _ M N l Hit _ c.in-Hit-default.is-0 c.in-Some.ensures.last refl c.requires) refl refl c.on_hit.ensures);
       same = refl;
     }
