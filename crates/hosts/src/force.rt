@@ -18,12 +18,8 @@ fn over_complex(rt: &HostRuntime, scene: Scene) -> anyhow::Result<()> {
     force.ask("force, pattern term live, term not", 9, 0)?;
     force.ask("force, neither live", 9, 5)?;
     force.ask("force, set-aside nodes", 1, 5)?;
-    let none_aside = Scene {
-        aside: &[],
-        ..scene
-    };
-    let mut alone = none_aside.play(rt, ForceEq::new(ComplexEq::new(&PAIRS, &[])));
-    alone.ask("force, none set aside", 1, 5)?;
+    force.set_aside(&[]);
+    force.ask("force, none set aside", 1, 5)?;
     let mut not_live = scene.play(rt, ForceEq::new(ComplexEq::new(&NOT_LIVE, &[])));
     not_live.ask("force, term not live, below offers", 9, 0)
 }

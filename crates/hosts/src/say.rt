@@ -35,7 +35,13 @@ impl fmt::Display for Made {
     fn fmt<W: fmt::Write>(&self, f: &mut fmt::Formatter<W>) -> fmt::Result {
         match self.0 {
             Ok(number) => write!(f, "{number}"),
-            Err(fault) => write!(f, "{fault}"),
+            Err(fault) => write!(
+                f,
+                "refused {}, {:?}, {:?}",
+                fault.refusal.number(),
+                fault.layer,
+                fault.culprit
+            ),
         }
     }
 }

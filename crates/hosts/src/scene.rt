@@ -21,7 +21,7 @@ impl<'a> Scene<'a> {
     }
 }
 
-// Each call but the last two prints a line that begins with the name of its case.
+// Each call but the last three prints a line that begins with the name of its case.
 #[derive(Drop)]
 pub struct Play<'a, R> {
     rt: &'a HostRuntime,
@@ -75,6 +75,10 @@ impl<'a, R: EqRewriter> Play<'a, R> {
         let forbids = self.rewriter.forbid_dups();
         println!(self.rt; "{case}: {coupling:?}, forbids twice {forbids}")?;
         Ok(())
+    }
+
+    pub fn set_aside(&mut self, aside: &'a [usize]) {
+        self.scene.aside = aside;
     }
 
     pub fn back(&mut self, mark: usize) {
