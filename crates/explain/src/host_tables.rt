@@ -20,7 +20,7 @@ fn put(table: &mut Vec<usize>, at: usize, number: usize)
 }
 
 // The table of this size to which each line gives its number at its place.
-pub fn table<L, P: Fn(&L) -> usize, N: Fn(&L) -> usize>(
+pub(crate) fn table<L, P: Fn(&L) -> usize, N: Fn(&L) -> usize>(
     lines: &[L],
     place: P,
     number: N,
@@ -52,7 +52,10 @@ pub struct HostTables {
 
 impl HostTables {
     // The host whose classes are read from their tables in this way.
-    pub fn host<'a, P: Partition, F: Fn(&'a [usize]) -> P>(&'a self, classes: F) -> TableHost<'a, P>
+    pub(crate) fn host<'a, P: Partition, F: Fn(&'a [usize]) -> P>(
+        &'a self,
+        classes: F,
+    ) -> TableHost<'a, P>
         requires { F.IsAlwaysCallable classes }
         ensures live { result.live.now ≡ self.now.live.items }
         ensures loose { FnReturnsAt F.Fn classes self.now.loose.items result.loose }

@@ -82,7 +82,10 @@ fn sizes(rt: &HostRuntime, t: &Tables) -> anyhow::Result<()> {
         "the largest store: {terms} terms, {nodes} nodes, {cells} cells, {symbols} symbols, {bytes} bytes"
     )?;
     let parts = t.request().parts().len();
-    let bindings = t.request().bound.count();
+    let bindings = match &t.bound {
+        Bindings::ToTerms(items) => items.len(),
+        Bindings::ToNodes(items) => items.len(),
+    };
     let entries = t.entries.len();
     let pairs = t.pairs.len();
     println!(rt;

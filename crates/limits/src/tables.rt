@@ -94,7 +94,7 @@ impl Tables {
 
     // An application to copies of this term, one to copies of that application, and so on, so many times.
     // An array of the copies fits in memory.
-    pub fn nested<const COPIES: usize>(
+    pub(crate) fn nested<const COPIES: usize>(
         &mut self,
         has_var: HasVar,
         term: usize,

@@ -17,7 +17,7 @@ pub fn show(
 }
 
 // The answer to the small request with this change.
-pub fn show_changed<F: FnOnce(&mut Tables) -> Result<(), AllocError> + Drop>(
+pub(crate) fn show_changed<F: FnOnce(&mut Tables) -> Result<(), AllocError> + Drop>(
     rt: &HostRuntime,
     what: impl fmt::Display + Drop,
     change: F,
@@ -30,7 +30,7 @@ pub fn show_changed<F: FnOnce(&mut Tables) -> Result<(), AllocError> + Drop>(
 }
 
 // The answers to the small request with this change at each of these numbers.
-pub fn show_at<F: Fn(&mut Tables, usize) -> Result<(), AllocError> + Drop>(
+pub(crate) fn show_at<F: Fn(&mut Tables, usize) -> Result<(), AllocError> + Drop>(
     rt: &HostRuntime,
     what: &str,
     numbers: &[usize],
